@@ -74,7 +74,8 @@ apart-stop xs ys i x l e a =
     let P : List ℕ → Type 0 = λ zs. AreApart zs ys in
     apart-pushed (take i xs) ys x (subst P (take_more xs i 0 l ∙ ap (λ (y : ℕ). take i xs ++ y ∷ []) (sym e)) a)
 
--- a number that the entries before a place of a rising list are below, and the entry there is above, is none of them
+-- a number that the entries before a place of a rising list are below, and the entry there is above, is
+-- none of them
 pub rising-none : (high : ℕ) (ys : List ℕ) (p x : ℕ) → AreRising 0 high ys → ((k : ℕ) → k < p → get_or ys k 0 < x) → (p < length ys → x < get_or ys p 0) → IsNoneOf x ys
 rising-none high ys p x r before there = none_of-from x ys (λ k l e. elim (cases_lt k p) [
   | inl low ↦ let b = before k low in absurd (omega arith)

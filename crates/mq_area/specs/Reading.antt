@@ -12,7 +12,7 @@ use Rattle.mq_area.specs.declared.header.Header.{Header}
 use Rattle.mq_area.specs.declared.refusal.DescriptorRefusal.{DescriptorRefusal}
 use Rattle.mq_area.specs.declared.refusal.DescriptorRefusal.TheVariants.{Magic, Version, Queue, Number, Place, Previous, Counts, List as Listed, Rest, OutOfMemory}
 
--- the place is the one that is expected, in an area of so many blocks
+-- the place is the one that is expected, in an area of this number of blocks
 abbrev pub PlaceFits : ℕ → PlaceIs → ℕ → Type 0
 PlaceFits area (Index index) place = place % area ≡ index
 PlaceFits area (Exact exact) place = place ≡ exact

@@ -1,10 +1,12 @@
--- What is known of a journal grows: newer transactions, more that is done, more contents at home, a later base word.
+-- What is known of a journal grows: newer transactions, more that is done, more contents at home, a later
+-- base word.
 use Rattle.std.specs.Prelude.{◌≡◌, ◌≤◌, ℕ, Bool, true, List, ◌++◌}
 use Rattle.mq_ledger.specs.History.{IsAt}
 use Rattle.mq_ledger.specs.KnownJournal.{KnownJournal}
 use Rattle.mq_ledger.specs.declared.tx.Tx.{Tx}
 
--- with these newer transactions, and with another word on what is done, on what is kept at home, and on the base
+-- with these newer transactions, and with another word on what is done, on what is kept at home, and on the
+-- base
 abbrev pub grown_to : KnownJournal → List Tx → (Tx → List Tx → Bool) → (ℕ → ℕ → Bool) → ℕ → KnownJournal
 grown_to k newer done due word = record k { history = newer ++ k.history; done = done; due = due; word = word }
 

@@ -67,7 +67,7 @@ PagesGoOn =
     → AreAtHome k b x
     → AreAtHome k b (x + 1)
 
--- so many pages stay at home, whatever others do meanwhile
+-- the first n pages stay at home, whatever others do meanwhile
 abbrev pub PagesStay : Type 0
 PagesStay =
     (k l : KnownJournal) (b n : ℕ)
@@ -167,8 +167,8 @@ WaitingPagesWereLogged =
     → t.number ≡ last k.base k.history x
     → is_among x (blocks_of t.logged) ≡ true)
 
--- A home write of the page, of any bytes, begins: what holds of its port still holds, though more is not known. So it
--- does if the home write fails or is cut off.
+-- A home write of the page, of any bytes, begins: what holds of its port still holds, though more is not
+-- known. So it does if the home write fails or is cut off.
 abbrev pub HomeWritesBegin : Type 0
 HomeWritesBegin =
     (k : KnownJournal) (ended : List (ℕ × ℕ)) (x version logged home : ℕ) (block : List ℕ)

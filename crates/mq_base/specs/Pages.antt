@@ -35,21 +35,21 @@ home_number k ended x = max (last_direct k.base k.history x) (last_ended k.base 
 
 -- ---- a page
 
--- The numbers of a page are its block's last change, the last that logged it, and one whose content of it is kept at
--- home or was written directly.
+-- The numbers of a page are its block's last change, the last that logged it, and one whose content of it
+-- is kept at home or was written directly.
 pub record IsNumbered (k : KnownJournal) (x version logged home : ℕ) : Type 0 where
   pub version_is : version ≡ last k.base k.history x
   pub logged_is : logged ≡ last_logged k.base k.history x
   pub home_is : (k.due x home ≡ true) ⊎ WroteDirectly k.history x home
 
--- A base needs no home write of the page: where the block is in the map, and its last change logged it and is not
--- above the base, its content is at home.
+-- A base needs no home write of the page: where the block is in the map, and its last change logged it and
+-- is not above the base, its content is at home.
 abbrev pub IsBrought : KnownJournal → ℕ → ℕ → ℕ → ℕ → ℕ → Type 0
 IsBrought k b x version logged home =
     (content : List ℕ) → map_after k.start k.history x ≡ Some content → logged ≡ version → version ≤ b → version ≤ home
 
--- At an earlier moment, at which the front was at the base or above it, the page had these numbers, its last change
--- was done, and the base needed no home write of it.
+-- At an earlier moment, at which the front was at the base or above it, the page had these numbers, its
+-- last change was done, and the base needed no home write of it.
 pub record WasBrought (k : KnownJournal) (b x : ℕ) : Type 0 where
   pub earlier : KnownJournal
   pub log : LogOk earlier
@@ -68,8 +68,8 @@ AreBrought k b = (x : ℕ) → x < homes_of k.geometry → WasBrought k b x
 
 -- ---- a page that is written home
 
--- The page waits for a home write: its last change logged it, is done, and is above the last number whose content
--- came home.
+-- The page waits for a home write: its last change logged it, is done, and is above the last number whose
+-- content came home.
 pub record IsToBring (k : KnownJournal) (ended : List (ℕ × ℕ)) (x version logged home : ℕ) : Type 0 where
   pub version_is : version ≡ last k.base k.history x
   pub logged_is : logged ≡ last_logged k.base k.history x

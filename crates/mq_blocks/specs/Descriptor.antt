@@ -36,7 +36,7 @@ abbrev pub AreApart : List ℕ → List ℕ → Type 0
 AreApart [] ys = Unit {0}
 AreApart (x ∷ xs) ys = IsNoneOf x ys × AreApart xs ys
 
--- what holds of every descriptor, on a drive with so many home blocks
+-- what holds of every descriptor, on a drive with `homes` home blocks
 pub record IsGood (homes : ℕ) (d : Descriptor) : Type 0 where
   pub queue : d.queue < 2 ^ 32
   pub number : d.number < 2 ^ 64

@@ -14,8 +14,8 @@ use Rattle.mq_blocks.specs.declared.command.HomeWrite.{HomeWrite}
 abbrev pub depth : ℕ
 depth = 1024
 
--- how many of them may be in use at once: from the head to the staged end one slot stays free, so that the one
--- before the head is never written
+-- how many of them may be in use at once: from the head to the staged end one slot stays free, so that the
+-- one before the head is never written
 abbrev pub usable_depth : ℕ
 usable_depth = 1023
 
@@ -219,7 +219,7 @@ pub record IsImage (s : PortState) (i : PortImage) : Type 0 where
   pub blocks : (k : ℕ) → k < length s.blocks → IsCertain s k → block_at i.blocks k ≡ block_at s.blocks k
 
 -- The port has one image: nothing is staged, stored or posted, and all is certain. A home write that
--- ended with an error, and whose block was written since, stays begun and is no doubt.
+-- ended with an error, and whose block was written since, stays begun and leaves nothing uncertain.
 pub record IsQuiescent (s : PortState) : Type 0 where
   pub flushed_end : s.flushed_end ≡ s.doorbell
   pub pending : s.pending ≡ []

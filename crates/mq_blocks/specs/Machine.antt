@@ -16,7 +16,7 @@ pub record Transaction : Type 0 where
   pub writes : Writes
   pub freed : List ℕ
 
--- A transaction on a drive with so many home blocks: it writes rising blocks of 4,096 bytes, and
+-- A transaction on a drive with `homes` home blocks: it writes rising blocks of 4,096 bytes, and
 -- frees none that it writes.
 pub record IsTransaction (homes : ℕ) (t : Transaction) : Type 0 where
   pub rising : AreRising 0 homes (map (λ w. w.0) t.writes)

@@ -14,6 +14,7 @@ use Rattle.mq_files.specs.declared.entry.FileEntry.{FileEntry}
 use Rattle.mq_files.proofs.Entries.{done_rises}
 use Rattle.mq_journal.specs.Draining.{report_of}
 use Rattle.mq_journal.specs.Numbers.{Seat, Shared, Start, reported}
+use Rattle.mq_journal.specs.Sweeping.{HasSwept}
 use Rattle.mq_pages.specs.Held.{Cells, HeldCells}
 use Rattle.mq_pages.specs.declared.page.Write.{Write}
 use Rattle.mq_rules.specs.Rule.{geometry_of, map_now}
@@ -29,7 +30,6 @@ use Rattle.mq_calls.specs.Committing.{IsMissed}
 use Rattle.mq_calls.specs.Pages.{HoldsPages, IsSeen}
 use Rattle.mq_calls.specs.Runs.{IsDoneOnCells, file_values, files, geometry_at}
 use Rattle.mq_calls.specs.Sessions.{HasCalled, IsReady}
-use Rattle.mq_calls.specs.Sweeping.{HasSwept}
 use Rattle.mq_calls.specs.Synchronizing.{IsDurable, IsNotDurable, WasDrainRefused, after}
 use Rattle.mq_calls.specs.Wanted.{IsSameSession}
 use Rattle.mq_calls.specs.declared.answers.CallCause.{CallCause}

@@ -7,6 +7,7 @@ use Rattle.mq_exec.specs.declared.outcome.Done.{Done}
 use Rattle.mq_files.specs.Group.{file_group}
 use Rattle.mq_files.specs.declared.entry.FileEntry.{FileEntry}
 use Rattle.mq_journal.specs.Numbers.{Seat}
+use Rattle.mq_journal.specs.Sweeping.{HasSwept, WasRefused}
 use Rattle.mq_side.specs.declared.answers.Cause.{Cause}
 use Rattle.mq_turns.specs.declared.rule.Charge.{Charge}
 use Rattle.mq_turns.specs.declared.rule.Report.{Report}
@@ -14,7 +15,6 @@ use Rattle.mq_calls.specs.Acts.{Call, GoesOn}
 use Rattle.mq_calls.specs.Calling.{IsReadOf}
 use Rattle.mq_calls.specs.Committing.{OnlyReports, ReadsWords}
 use Rattle.mq_calls.specs.Drawing.{HasDrawn}
-use Rattle.mq_calls.specs.Sweeping.{HasSwept, WasRefused}
 use Rattle.mq_calls.specs.Wanted.{IsSameSession}
 use Rattle.mq_calls.proofs.Acts.{OnlyHolds}
 

@@ -193,8 +193,8 @@ module _ {Q R E : Type 0} (μ : Meaning PageCell Q R E) (o : Opening PageCell Q 
   after-below b less gone [] own low = refl
   after-below b less gone (x ∷ xs) own low = λ i. (x.0, stays_below number 0 x.0 plan less gone frees x.1 (λ w c. let a = own w c in let l = low.0 in omega arith) i) ∷ after-below b less gone xs own low.1 i
 
-  -- The pages that are still held have the cells that the writes which are left make of them, and those writes are of
-  -- their blocks.
+  -- The pages that are still held have the cells that the writes which are left make of them, and those
+  -- writes are of their blocks.
   pub record HasLeft (old now : ChairView PageCell Q R E) (before cells : Cells) (all writes : List Write) : Type 0 where
     pub given : HasGiven μ o old now (cells_after (tx all) before) (cells_after (tx writes) cells)
     pub rise : (high : ℕ) × AreRising 0 high (blocks_in writes)

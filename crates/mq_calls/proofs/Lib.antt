@@ -13,7 +13,6 @@ pub mod CommittingInHand
 pub mod CommittingDrawable
 pub mod Acts
 pub mod LeavingAfterDraw
-pub mod SweepingDrains
 pub mod ActsCauses
 pub mod DrawingSent
 pub mod OpeningCells

@@ -1,4 +1,5 @@
--- What is read on a drive that is a start of the machine: nothing is left to bring home, so what stands is at home.
+-- What is read on a drive that is a start of the machine: nothing is left to bring home, so what stands is
+-- at home.
 use Rattle.std.proofs.Common.{◌≡◌, ◌≢◌, ◌⊎◌, inl, inr, ℕ, zero, suc, ◌-◌, ◌%◌, ◌<◌, ◌≤◌, true, List, [], get_or, replicate, refl, sym, ap, subst, ◌∙◌, arith}
 use Rattle.std.specs.Prelude.{Option, Some, None}
 use Rattle.std.proofs.lemmas.List.{length-replicate, get_or-replicate}

@@ -43,8 +43,8 @@ use Rattle.mq_calls.specs.Runs.{file_values}
 use Rattle.mq_calls.specs.declared.answers.CallCause.{CallCause}
 use Rattle.mq_calls.specs.declared.answers.CallCause.TheVariants as refused
 
--- A call of a session: the session's number, how many calls it made before, whether the caller waits until the group is
--- done, and what is asked.
+-- A call of a session: the session's number, how many calls it made before, whether the caller waits until
+-- the group is done, and what is asked.
 pub record Call : Type 0 where
   pub session : ℕ
   pub count : ℕ
@@ -67,8 +67,9 @@ pub record IsOfCall (c : Call) (replies : List Reply) (e : FileEntry) : Type 0 w
 module _ {P : Type 0} {G : Ghosts P} where
   -- ---- a group that was done
 
-  -- The session drew its group's entry at this number, which is above all that it had seen. The group writes no more than
-  -- a transaction may; it was placed by the front and by the base that the call was answered; and this alone was reported.
+  -- The session drew its group's entry at this number, which is above all that it had seen. The group
+  -- writes no more than a transaction may; it was placed by the front and by the base that the call was
+  -- answered; and this alone was reported.
   pub record Commits (g : Geometry) (c : Call) (replies : List Reply) (at : ℕ) (r : Report) (old new : Seat P FileEntry G) : Type 0 where
     pub entry : FileEntry
     pub is : IsOfCall c replies entry
@@ -79,8 +80,8 @@ module _ {P : Type 0} {G : Ghosts P} where
     pub answers : new.reading.answers ≡ Base entry.reads.base ∷ Front entry.reads.front ∷ old.reading.answers
     pub charged : new.reading.charged ≡ reported c.session r ∷ old.reading.charged
 
-  -- The session read its group's entry at this number, the newest at that moment and not below any that it had seen.
-  -- Nothing was reported.
+  -- The session read its group's entry at this number, the newest at that moment and not below any that it
+  -- had seen. Nothing was reported.
   pub record ReadsGroup (c : Call) (replies : List Reply) (at : ℕ) (e : FileEntry) (old new : Seat P FileEntry G) : Type 0 where
     pub is : IsOfCall c replies e
     pub known : Shared P FileEntry G
@@ -133,20 +134,21 @@ module _ {P : Type 0} {G : Ghosts P} where
     pub above : limit < count
 
 module _ {P : Type 0} {G : Ghosts P} (state : P → PortState) (faults : P → List PortFault) where
-  -- By what was known since then, a side that the session held is what lies there; it had kept the failure that is named,
-  -- or its drain came to this refusal.
+  -- By what was known since then, a side that the session held is what lies there; it had kept the failure
+  -- that is named, or its drain came to this refusal.
   pub data IsCaused (v : Seat P FileEntry G) (q : ℕ) : Cause → Type 0 where
     kept : {tx : ℕ} {why : Why} (K : Shared P FileEntry G) (s : QueueSide P FileEntry G) → IsKnownFrom state faults file_group v K → IsSide (file_values state faults) file_group q K s → s.kept ≡ Some (tx, why) → IsCaused v q (Stopped tx why)
     drained : {c : Cause} (K : Shared P FileEntry G) (s after : QueueSide P FileEntry G) → IsKnownFrom state faults file_group v K → IsSide (file_values state faults) file_group q K s → Drains (side_state state faults s) (Err c) (side_state state faults after) → DrainCause (Err c) (faults s.pmr.port) (faults after.pmr.port) → IsCaused v q c
 
-  -- A port's refusal before the group drew a number. It is charged to the port of the queue, and nothing else is.
+  -- A port's refusal before the group drew a number. It is charged to the port of the queue, and nothing
+  -- else is.
   pub record Refuses (q : ℕ) (c : Cause) (old new : Seat P FileEntry G) : Type 0 where
     pub rests : Rests old new
     pub charged : new.reading.charged ≡ reported q (report_of c) ∷ old.reading.charged
     pub caused : IsCaused old q c
 
-  -- The send of the number, which is above all that the session had seen, was cut on a side, whose port gained an `Off`
-  -- by it.
+  -- The send of the number, which is above all that the session had seen, was cut on a side, whose port
+  -- gained an `Off` by it.
   pub record WasCutAt (v : Seat P FileEntry G) (at : ℕ) : Type 0 where
     pub above : v.seen < at
     pub side : QueueSide P FileEntry G
@@ -160,7 +162,8 @@ module _ {P : Type 0} {G : Ghosts P} (state : P → PortState) (faults : P → L
     pub commits : Commits g c replies at report.Off old new
     pub cut : WasCutAt old at
 
-  -- Why a group that was run on its pages is refused, with the number that it had drawn, and what that leaves.
+  -- Why a group that was run on its pages is refused, with the number that it had drawn, and what that
+  -- leaves.
   pub data IsTurnedDown (g : Geometry) (c : Call) (old new : Seat P FileEntry G) : CallCause → Option ℕ → Type 0 where
     memory : KeepsAll old new → IsTurnedDown g c old new refused.OutOfMemory None
     too_large : {count limit : ℕ} → IsTooLarge g c count limit old new → IsTurnedDown g c old new (refused.TooLarge count limit) None
@@ -173,8 +176,9 @@ module _ {P : Type 0} {G : Ghosts P} (state : P → PortState) (faults : P → L
   abbrev pub planned_at : Shared P FileEntry G → List Write → List Planned
   planned_at K writes = map (planned_by (start_of (file_values state faults) file_group K.opening) K.opening.base (history_of (file_values state faults) file_group K)) writes
 
-  -- On the map at the newest number of what was known, the group of the call comes to this: it changes something, and writes
-  -- no more than a transaction may. The rule places what it writes so, by a front and a base that had been read.
+  -- On the map at the newest number of what was known, the group of the call comes to this: it changes
+  -- something, and writes no more than a transaction may. The rule places what it writes so, by a front and
+  -- a base that had been read.
   pub record IsPlacedAt (g : Geometry) (c : Call) (K : Shared P FileEntry G) (reads : WordsRead) (plan : Placed) : Type 0 where
     pub done : Done
     pub does : DoneOn g c.session (map_now (file_values state faults) file_group K) c.requests done
@@ -184,8 +188,9 @@ module _ {P : Type 0} {G : Ghosts P} (state : P → PortState) (faults : P → L
     pub base_low : reads.base ≤ K.word
     pub placed : IsPlacement g c.session reads.front reads.base (planned_at K done.writes.items) plan
 
-  -- The plan of the call's group, by the front and the base that the call was answered, does not fit the journal area of its
-  -- queue: by that base there is no room for it beside what the side stores, which the session held.
+  -- The plan of the call's group, by the front and the base that the call was answered, does not fit the
+  -- journal area of its queue: by that base there is no room for it beside what the side stores, which the
+  -- session held.
   pub record LacksArea (g : Geometry) (c : Call) (old new : Seat P FileEntry G) : Type 0 where
     pub known : Shared P FileEntry G
     pub from : IsKnownFrom state faults file_group old known
@@ -220,8 +225,8 @@ module _ {P : Type 0} {G : Ghosts P} (state : P → PortState) (faults : P → L
     pub begins : Begins g c old from
     pub acts : Acts g c at drew replies from new
 
-  -- Why `fatomic` refuses a group, with the number that the group had drawn, and what that leaves: the group was turned
-  -- down; or its plan did not fit the journal area, and the checkpoint was refused.
+  -- Why `fatomic` refuses a group, with the number that the group had drawn, and what that leaves: the
+  -- group was turned down; or its plan did not fit the journal area, and the checkpoint was refused.
   pub data IsRefused (g : Geometry) (c : Call) (old new : Seat P FileEntry G) : CallCause → Option ℕ → Type 0 where
     turned_down : {why : CallCause} {drawn : Option ℕ} {from : Seat P FileEntry G} → Begins g c old from → IsTurnedDown g c from new why drawn → IsRefused g c old new why drawn
     no_room : (why : CheckpointRefusal) {between : Seat P FileEntry G} → IsAreaFull g c old between → HasRefused state faults file_group why between new → IsRefused g c old new (cause_of why) None

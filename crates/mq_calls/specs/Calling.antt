@@ -53,8 +53,8 @@ module _ {P : Type 0} {G : Ghosts P} where
     pub none : after.cells ≡ []
     pub room : after.room ≡ before.room
 
-  -- The session has read the entry at the number, the newest then, and holds no turn any more. Nothing else of it has
-  -- changed.
+  -- The session has read the entry at the number, the newest then, and holds no turn any more. Nothing else
+  -- of it has changed.
   pub record Looked (e : FileEntry) (at : ℕ) (old new : Seat P FileEntry G) : Type 0 where
     pub known : Shared P FileEntry G
     pub number : newest known ≡ at

@@ -1,5 +1,5 @@
--- A group that is about to be drawn: its pages and the side of its queue are held, its blocks are placed, and its commit is
--- prepared.
+-- A group that is about to be drawn: its pages and the side of its queue are held, its blocks are placed,
+-- and its commit is prepared.
 use Rattle.std.specs.Prelude.{◌≡◌, ◌<◌, ◌≤◌, ◌+◌, ℕ, List, ◌∷◌, map, None, vec_len, vec_capacity}
 use Rattle.mq_blocks.specs.Drive.{PortState}
 use Rattle.mq_blocks.specs.Geometry.{area_of}
@@ -64,8 +64,8 @@ module _ {P : Type 0} {G : Ghosts P} where
     pub front : reads.front ≤ new.reading.done
     pub base : reads.base ≤ new.reading.base
 
-  -- Of all but its turns and what it knows of words, this alone has changed: what it reported. What it knows of numbers
-  -- has not fallen, and it was answered nothing more.
+  -- Of all but its turns and what it knows of words, this alone has changed: what it reported. What it
+  -- knows of numbers has not fallen, and it was answered nothing more.
   pub record OnlyReports (reports : List Charge) (old new : Seat P FileEntry G) : Type 0 where
     pub parts : new.parts ≡ old.parts
     pub opening : new.opening ≡ old.opening
@@ -78,7 +78,8 @@ module _ {P : Type 0} {G : Ghosts P} where
     pub charged : new.reading.charged ≡ reports
 
 module _ {P : Type 0} {G : Ghosts P} (state : P → PortState) (faults : P → List PortFault) where
-  -- It holds the pages of these cells and the side of its queue, and no other turn; and something may be known by now.
+  -- It holds the pages of these cells and the side of its queue, and no other turn; and something may be
+  -- known by now.
   pub record HoldsCommit (o : Start P FileEntry G) (q : ℕ) (cells : Cells) (s : QueueSide P FileEntry G) (v : Seat P FileEntry G) : Type 0 where
     pub pages : HoldsPages (files state faults) o cells v
     pub side : HoldsSide state faults file_group o q s v
@@ -98,15 +99,17 @@ module _ {P : Type 0} {G : Ghosts P} (state : P → PortState) (faults : P → L
     pub reserved : vec_len s.stored < vec_capacity s.stored
     pub none : s.kept ≡ None
 
-  -- Why the side of the queue has no room for what is placed so: by this base it does not fit the journal area; or the side
-  -- shows what will be reported of its port, and had come to it in hand. No memory is taken.
+  -- Why the side of the queue has no room for what is placed so: by this base it does not fit the journal
+  -- area; or the side shows what will be reported of its port, and had come to it in hand. No memory is
+  -- taken.
   abbrev pub HasNoRoom : (queue base : ℕ) → Placed → QueueSide P FileEntry G → Seat P FileEntry G → Obstacle → Type 0
   HasNoRoom q base plan s v obstacle.Memory = ⊥
   HasNoRoom q base plan s v obstacle.Area = FitIs (area_of s.pmr.geometry) base (rows_of s.stored.items) (state s.pmr.port) plan Area
   HasNoRoom q base plan s v (obstacle.Drive cause) = ShowsReport state faults file_group q (report_of cause) s v × IsCaused state faults v q cause
 
-  -- Why the commit of the call is not prepared, and what stands behind that: the plan of its group does not fit the journal
-  -- area of the queue; or the side shows what will be reported of its port, and had come to it in hand.
+  -- Why the commit of the call is not prepared, and what stands behind that: the plan of its group does not
+  -- fit the journal area of the queue; or the side shows what will be reported of its port, and had come to
+  -- it in hand.
   abbrev pub IsObstacle : Geometry → Call → (old : Seat P FileEntry G) → QueueSide P FileEntry G → Seat P FileEntry G → Obstacle → Type 0
   IsObstacle g c old s v obstacle.Memory = Unit {0}
   IsObstacle g c old s v obstacle.Area = LacksArea state faults g c old v
@@ -118,8 +121,8 @@ module _ {P : Type 0} {G : Ghosts P} (state : P → PortState) (faults : P → L
   ShowsObstacle q s v obstacle.Area = Unit {0}
   ShowsObstacle q s v (obstacle.Drive cause) = ShowsReport state faults file_group q (report_of cause) s v
 
-  -- Why a group that was run on its pages was not done, and what that leaves: its plan did not fit the journal area, or it
-  -- was turned down.
+  -- Why a group that was run on its pages was not done, and what that leaves: its plan did not fit the
+  -- journal area, or it was turned down.
   abbrev pub IsMissed : Geometry → Call → Seat P FileEntry G → Seat P FileEntry G → Miss → Type 0
   IsMissed g c old new miss.AreaFull = IsAreaFull state faults g c old new
   IsMissed g c old new (miss.Refused r) = IsTurnedDown state faults g c old new r.cause r.drawn

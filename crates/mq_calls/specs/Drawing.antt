@@ -16,8 +16,8 @@ module _ {P : Type 0} {G : Ghosts P} where
     pub opening : new.opening ≡ old.opening
     pub session : new.session ≡ old.session
 
-  -- It has drawn the entry at the number, above all that it had seen, and reported this of the queue's port. It holds no
-  -- turn any more, and may know of more that is done.
+  -- It has drawn the entry at the number, above all that it had seen, and reported this of the queue's
+  -- port. It holds no turn any more, and may know of more that is done.
   pub record HasDrawn (e : FileEntry) (q at : ℕ) (r : Report) (old new : Seat P FileEntry G) : Type 0 where
     pub seat : SameSeat old new
     pub held : new.held ≡ []
@@ -29,6 +29,7 @@ module _ {P : Type 0} {G : Ghosts P} where
     pub answers : new.reading.answers ≡ old.reading.answers
     pub charged : new.reading.charged ≡ reported q r ∷ old.reading.charged
 
-  -- what a group that changes something came to: it is a commit, and rung, at the newest number that the session knows of
+  -- what a group that changes something came to: it is a commit, and rung, at the newest number that the
+  -- session knows of
   abbrev pub IsCommitted : Geometry → Call → List Reply → (at : ℕ) → Seat P FileEntry G → Seat P FileEntry G → Type 0
   IsCommitted g c replies at old new = Commits g c replies at (Sent at) old new × (new.seen ≡ at)

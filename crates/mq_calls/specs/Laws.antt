@@ -68,7 +68,8 @@ module _ {Q R E : Type 0} (μ : Meaning PageCell Q R E) where
       → HoldsPages μ o cells v
       → HoldsPages μ o cells w
 
-  -- a step that is about some of them, as a draw is, gives them the cells that the machine then has for them
+  -- a step that is about some of them, as a draw is, gives them the cells that the machine then has for
+  -- them
   abbrev pub PagesFollowStep : Type 0
   PagesFollowStep =
       (o : Opening PageCell Q R) (cells new : Cells) (v w : ChairView PageCell Q R E) (about : ℕ → Bool) (L : Known PageCell Q R E)
@@ -77,7 +78,8 @@ module _ {Q R E : Type 0} (μ : Meaning PageCell Q R E) where
       → HoldsPages μ o cells v
       → HoldsPages μ o new w
 
-  -- A session that holds just these pages and one other turn holds nothing once it has given all of them back.
+  -- A session that holds just these pages and one other turn holds nothing once it has given all of them
+  -- back.
   abbrev pub NoPageIsLeft : Type 0
   NoPageIsLeft =
       (cells : Cells) (v : ChairView PageCell Q R E) (slot : ℕ)
@@ -95,8 +97,8 @@ module _ {Q R E : Type 0} (values : Values Q R E) (group : GroupView E) where
       → map_now values group K b ≡ page
 
 module _ {P : Type 0} {G : Ghosts P} (state : P → PortState) (faults : P → List PortFault) (o : Start P FileEntry G) where
-  -- where the session holds the pages, a group that is done on them is done on the map at the newest number, whatever is
-  -- known by now
+  -- where the session holds the pages, a group that is done on them is done on the map at the newest
+  -- number, whatever is known by now
   abbrev pub DoneGroupsStand : Type 0
   DoneGroupsStand =
       (g : Geometry) (cells : Cells) (v : Seat P FileEntry G) (session : ℕ) (requests : List Request) (done : Done)
@@ -115,8 +117,8 @@ ReadingGroupsChangeNothing =
     → (done.writes.items ≡ []) × (done.frees.items ≡ [])
 
 module _ {P E : Type 0} {G : Ghosts P} (state : P → PortState) (faults : P → List PortFault) (group : GroupView E) (s : QueueSide P E G) where
-  -- Pages that a session holds when it draws a number stay held, each with the cell that the transaction of the entry makes
-  -- of its own.
+  -- Pages that a session holds when it draws a number stay held, each with the cell that the transaction of
+  -- the entry makes of its own.
   abbrev pub DrawnPagesAreHeld : Type 0
   DrawnPagesAreHeld =
       (o : Start P E G) (q : ℕ) (e : E) (old new : Seat P E G) (n : NumberedCommit) (cells : Cells)

@@ -10,7 +10,6 @@ pub mod Asking
 pub mod Drawing
 pub mod Synchronizing
 pub mod Leaving
-pub mod Sweeping
 pub mod Laws
 pub mod Opening
 pub mod Mounting

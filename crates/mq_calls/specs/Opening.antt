@@ -1,4 +1,5 @@
--- A file system at its opening: over which ports it may be opened, and what its desk and its sessions are then.
+-- A file system at its opening: over which ports it may be opened, and what its desk and its sessions are
+-- then.
 use Rattle.std.specs.Prelude.{◌≡◌, ◌≤◌, ℕ, List, [], length, map, Option, None}
 use Rattle.std.specs.List.{range_with_len}
 use Rattle.mq_blocks.specs.Drive.{PortState}
@@ -32,8 +33,8 @@ use Rattle.mq_calls.specs.Sessions.{IsReady}
 abbrev pub stored_map : Geometry → List (Option (List ℕ)) → List (Option (List ℕ))
 stored_map g stored = map (map_of g stored) (range_with_len 0 (homes_of g))
 
--- The ports are a start of the machine over the map of these blocks, on which some volume lies; their base is the
--- standing's. So each block of the map stands at home.
+-- The ports are a start of the machine over the map of these blocks, on which some volume lies; their base
+-- is the standing's. So each block of the map stands at home.
 pub record MayOpen (g : Geometry) (d : DriveState) (s : Standing) : Type 0 where
   pub whole : length s.blocks.items ≡ homes_of g
   pub base : s.base ≡ d.root.base

@@ -30,8 +30,8 @@ module _ {Q R E : Type 0} where
   giving_pages blocks v = record v { hand = 0; held = without_each blocks v.held }
 
 module _ {Q R E : Type 0} (μ : Meaning PageCell Q R E) where
-  -- The session holds the turn of the block's page, and the cell is what the machine says of the page by what the
-  -- session knows of that turn.
+  -- The session holds the turn of the block's page, and the cell is what the machine says of the page by
+  -- what the session knows of that turn.
   pub record HoldsPage (o : Opening PageCell Q R) (v : ChairView PageCell Q R E) (b : ℕ) (c : PageCell) : Type 0 where
     pub turn : IsTurn o (Page b)
     pub holds : 0 < times b v.held
@@ -47,8 +47,9 @@ module _ {Q R E : Type 0} (μ : Meaning PageCell Q R E) where
     pub pages : HoldsPages o cells v
     pub only : (k : ℕ) → times k v.held ≡ times k cells
 
-  -- A cell and the one that stands for the same page after a step of the session's own, which is about these slots: it is
-  -- what the machine says of the page by what was known then. Where the step is not about the page, it is the same cell.
+  -- A cell and the one that stands for the same page after a step of the session's own, which is about
+  -- these slots: it is what the machine says of the page by what was known then. Where the step is not
+  -- about the page, it is the same cell.
   pub record IsAfterStep (about : ℕ → Bool) (L : Known PageCell Q R E) (old new : ℕ × PageCell) : Type 0 where
     pub block : new.0 ≡ old.0
     pub about_it : about old.0 ≡ true → μ.page old.0 L new.1

@@ -25,8 +25,8 @@ use Rattle.mq_turns.specs.Meaning.{Meaning}
 use Rattle.mq_turns.specs.declared.rule.Opening.{Opening}
 use Rattle.mq_turns.specs.declared.rule.ChairView.{ChairView}
 
--- The group is done so on each volume of which the pages in these cells may be a part. The page of each block that it
--- changes is among them.
+-- The group is done so on each volume of which the pages in these cells may be a part. The page of each
+-- block that it changes is among them.
 abbrev pub IsDoneOnCells : Geometry → (session : ℕ) → List Request → Cells → Done → Type 0
 IsDoneOnCells g session requests cells done = Answers g session (held_pages cells) requests (IsDone done)
 
@@ -42,8 +42,8 @@ module _ {P : Type 0} {G : Ghosts P} (state : P → PortState) (faults : P → L
   abbrev pub geometry_at : Opening PageCell (QueueSide P FileEntry G) (Root P G) → Geometry
   geometry_at o = shape_of file_values file_group o
 
-  -- The page of each block that the group changes is held, and whatever is known by now, the group is done so on the map
-  -- at the newest number.
+  -- The page of each block that the group changes is held, and whatever is known by now, the group is done
+  -- so on the map at the newest number.
   pub record IsDoneOnHeld (session : ℕ) (requests : List Request) (cells : Cells) (v : ChairView PageCell (QueueSide P FileEntry G) (Root P G) FileEntry) (done : Done) : Type 0 where
     pub known : AreKnown (held_pages cells) done
     pub does : (K : DeskState file_values file_group) → Sees files v K → DoneOn (geometry_of file_values file_group K) session (map_now file_values file_group K) requests done

@@ -9,7 +9,7 @@ use Rattle.mq_pages.specs.Held.{HeldCells}
 use Rattle.mq_turns.specs.Lists.{Each}
 
 module _ {P : Type 0} {G : Ghosts P} where
-  -- each group that it has drawn or read is of one of so many calls
+  -- each group that it has drawn or read is of one of its first `calls` calls
   pub record HasCalled (calls : ℕ) (v : Seat P FileEntry G) : Type 0 where
     pub drawn : Each (λ d. d.1.call < calls) v.drawn
     pub read : Each (λ r. r.0.call < calls) v.read

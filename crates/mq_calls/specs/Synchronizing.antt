@@ -8,10 +8,10 @@ use Rattle.mq_drive.specs.declared.port.Port.{Ghosts}
 use Rattle.mq_files.specs.Group.{file_group}
 use Rattle.mq_files.specs.declared.entry.FileEntry.{FileEntry}
 use Rattle.mq_journal.specs.Numbers.{Seat}
+use Rattle.mq_journal.specs.Sweeping.{NamesUpto, WasRefused}
 use Rattle.mq_side.specs.declared.answers.Cause.{Cause}
 use Rattle.mq_tree.specs.declared.request.Reply.{Reply}
 use Rattle.mq_calls.specs.Acts.{Call, HasActed, IsRefused}
-use Rattle.mq_calls.specs.Sweeping.{NamesUpto, WasRefused}
 use Rattle.mq_calls.specs.declared.answers.CallCause.{CallCause}
 use Rattle.mq_calls.specs.declared.answers.CallCause.TheVariants.{Drive}
 
@@ -21,8 +21,8 @@ drawn_at at true = Some at
 drawn_at at false = None
 
 module _ {P : Type 0} {G : Ghosts P} (state : P → PortState) (faults : P → List PortFault) where
-  -- The group is a commit in the history at the number, or a read there; and the session knows every number up to it to be
-  -- done.
+  -- The group is a commit in the history at the number, or a read there; and the session knows every number
+  -- up to it to be done.
   pub record IsDurable (g : Geometry) (c : Call) (at : ℕ) (drew : Bool) (replies : List Reply) (old new : Seat P FileEntry G) : Type 0 where
     pub acted : HasActed state faults g c at drew replies old new
     pub done : at ≤ new.reading.done
@@ -35,7 +35,8 @@ module _ {P : Type 0} {G : Ghosts P} (state : P → PortState) (faults : P → L
     pub refused : WasRefused state faults file_group (queues_of g) at why old new
     pub upto : NamesUpto at why
 
-  -- It was done so, and then the drain of a queue came to this refusal, which names no number above the group's own.
+  -- It was done so, and then the drain of a queue came to this refusal, which names no number above the
+  -- group's own.
   pub record WasActed (g : Geometry) (c : Call) (cause : Cause) (drawn : Option ℕ) (old new : Seat P FileEntry G) : Type 0 where
     pub at : ℕ
     pub drew : Bool

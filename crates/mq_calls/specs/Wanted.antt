@@ -8,7 +8,7 @@ use Rattle.mq_turns.specs.declared.rule.Opening.{Opening}
 use Rattle.mq_turns.specs.declared.rule.ChairView.{ChairView}
 use Rattle.mq_calls.specs.Pages.{HoldsOnlyPages, IsSeen, blocks_of}
 
--- home blocks of so many, by rising number
+-- home blocks of a drive with `homes` of them, by rising number
 pub record AreWanted (homes : ℕ) (blocks : List ℕ) : Type 0 where
   pub rise : AllPairs (λ a b. a < b) blocks
   pub homes_are : All (λ b. b < homes) blocks
@@ -25,8 +25,8 @@ pub record AreTogether (blocks others both : List ℕ) : Type 0 where
   pub only : (b : ℕ) → Contains both b → Contains blocks b ⊎ Contains others b
 
 module _ {Q R E : Type 0} where
-  -- Nothing of the session changes but the turns that it holds, and the greatest number that it knows of, which does not
-  -- fall.
+  -- Nothing of the session changes but the turns that it holds, and the greatest number that it knows of,
+  -- which does not fall.
   pub record IsSameSession (old new : ChairView PageCell Q R E) : Type 0 where
     pub is : new ≡ record old { seen = new.seen; hand = new.hand; held = new.held }
     pub seen : old.seen ≤ new.seen

@@ -1,11 +1,11 @@
 // The calls of a session that change the file system.
 ghost use Rattle.std.specs.Prelude.{◌≡◌, ◌+◌, ◌<◌, ◌≤◌, IfErr, IfOk, OnOk, [], None, true, false};
 ghost use Rattle.mq_files.specs.Group.{file_group};
+ghost use Rattle.mq_journal.specs.Sweeping.{HasSwept};
 ghost use Rattle.mq_turns.specs.AtDesk.{AtDesk, view};
 ghost use Rattle.mq_calls.specs.Acts.{GoesOn, HasActed, IsAreaFull, IsRefused, cause_of};
 ghost use Rattle.mq_calls.specs.Calling.{call_by, call_of};
 ghost use Rattle.mq_calls.specs.Sessions.{IsReady};
-ghost use Rattle.mq_calls.specs.Sweeping.{HasSwept};
 ghost use Rattle.mq_calls.specs.Synchronizing.{IsDurable, IsNotDurable, WasDrainRefused};
 
 use crate::answers::{Answer, CallCause, Refusal};
@@ -13,9 +13,9 @@ use crate::asked::Asked;
 use crate::committing::Miss;
 use crate::gate::{Gate, Point};
 use crate::session::{CALL_LIMIT, Mqfs, Session};
-use crate::sweeping::drain_all;
 use mq_checkpoint::CheckpointRefusal;
 use mq_drive::Port;
+use mq_journal::drain_all;
 use mq_tree::Request;
 use std::alloc::Global;
 use std::sync::Wait;
@@ -76,9 +76,9 @@ impl<P: Port + Drop> Mqfs<P> {
         }
     }
 
-    // Makes room in the journal areas by a checkpoint, and does the group once more: its plan did not fit the
-    // area of its queue. After the checkpoint nothing of this queue is above the base, so the plan fits then.
-    // That is not proved, and where it did not fit again, the answer would be out of memory.
+    // Makes room in the journal areas by a checkpoint, and does the group once more: its plan did not fit
+    // the area of its queue. After the checkpoint nothing of this queue is above the base, so the plan fits
+    // then. That is not proved, and where it did not fit again, the answer would be out of memory.
     fn act_again<R: Wait>(
         &self,
         rt: &R,

@@ -1,5 +1,5 @@
-//! Calls of the sessions of a file system on a desk that many threads share: the pages that a session takes,
-//! runs a group of requests on, and gives back.
+//! Calls of the sessions of a file system on a desk that many threads share: the pages that a session
+//! takes, runs a group of requests on, and gives back.
 #![tactic(auto)]
 
 mod answers;
@@ -22,7 +22,6 @@ mod preparing;
 mod reading;
 mod rounds;
 mod session;
-mod sweeping;
 mod telling;
 mod wanted;
 

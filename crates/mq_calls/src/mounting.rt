@@ -1,4 +1,5 @@
-// A file system is mounted: it is opened over the ports of a drive that was recovered, where one lies there.
+// A file system is mounted: it is opened over the ports of a drive that was recovered, where one lies
+// there.
 ghost use Rattle.std.specs.Prelude.{◌≡◌, ◌≤◌, ◌^◌, ℕ, IfOk, IfErr, Some, slice_get, vec_len};
 ghost use Rattle.mq_blocks.specs.Geometry.{queues_of};
 ghost use Rattle.mq_recover.specs.Drives.{IsQuiescentDrive, drive_of};

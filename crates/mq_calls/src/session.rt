@@ -11,7 +11,7 @@ use mq_revoke::Placement;
 use mq_turns::{Chair, Desk, Machine};
 
 /// The number of calls that a session may make. Each may draw a number, and the numbers of all sessions
-/// stay below 2^63. After so many calls a session reports out of memory.
+/// stay below 2^63. After this number of calls a session reports out of memory.
 pub(crate) const CALL_LIMIT: u64 = 1 << 57;
 
 /// A file system over the ports of a drive. Threads share it by `&`, each with a session of its own.

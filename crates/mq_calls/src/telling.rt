@@ -1,4 +1,4 @@
-// What one session knows is told to another.
+// One session passes what it knows to another.
 ghost use Rattle.std.specs.Prelude.{◌≡◌, ℕ};
 ghost use Rattle.mq_turns.specs.AtDesk.{AtDesk, view};
 ghost use Rattle.mq_turns.specs.Desk.{Below};

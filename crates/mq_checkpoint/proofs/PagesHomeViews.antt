@@ -1,5 +1,5 @@
--- A session that holds a page takes the port of its block, notes a home write or reports of the port, and gives the port
--- back.
+-- A session that holds a page takes the port of its block, notes a home write or reports of the port, and
+-- gives the port back.
 use Rattle.std.proofs.Common.{◌≡◌, ◌≢◌, ℕ, ◌==◌, ◌<◌, ◌≤◌, true, false, cond, List, [], ◌∷◌, Option, sym, refl, ap, subst, ◌∙◌, arith}
 use Rattle.std.specs.Prelude.{None, Some}
 use Rattle.std.proofs.lemmas.Bool.{eq-eqb, eqb-true, false≢true, ne_eqb}

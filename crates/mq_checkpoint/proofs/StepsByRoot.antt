@@ -98,7 +98,8 @@ module _ {P E : Type 0} {G : Ghosts P} (state : P → PortState) (faults : P →
           root_written state faults group K before.ok b c copy (bring_seen state faults group o b c v opening h due K before) (subst (λ x. b < homes_of x) (shape_now K sees) inside) lba (lba_is ∙ ap (λ x. home_lba x b) (shape_now K sees))
           (subst (λ x. zone_of x b ≡ None) (shape_now K sees) zone) s u (root_now K sees) r gives stays is_so (page_seen state faults group o b c v opening h K before) there
 
-    -- once it is noted the session holds the root so, and it is what the rule says, whatever is known by now
+    -- once it is noted the session holds the root so, and it is what the rule says, whatever is known by
+    -- now
     module _ (is_so : r ≡ Ok home.Done) (there : c.content ≡ Some copy) (K3 : Shared P E G) (v2 : Seat P E G) (sees3 : Sees μ v1 K3) (noted : v2 ≡ after_notice μ (notice.Home b c.version) K3 v1) where
       abbrev slot : ℕ
       slot = slot_of o turn.Root

@@ -22,8 +22,8 @@ use Rattle.mq_turns.specs.declared.turn.Turn.TheVariants as turn
 use Rattle.mq_checkpoint.specs.Steps.{IsKnownFrom, RefusesCheckpoint}
 use Rattle.mq_checkpoint.specs.declared.refusal.CheckpointRefusal.{CheckpointRefusal}
 
--- Whatever is known, by which this is a base: a root that stood before stands after. The port keeps its fuse, and the
--- same of its home writes fails.
+-- Whatever is known, by which this is a base: a root that stood before stands after. The port keeps its
+-- fuse, and the same of its home writes fails.
 pub record KeepsStanding (base : ℕ) (old new : PortState) : Type 0 where
   pub stands : (k : KnownJournal) → BaseOk k base → RootStands k old → RootStands k new
   pub bound : IsBoundKept old new
@@ -33,8 +33,8 @@ abbrev pub reported_root : Report → Charge
 reported_root r = record { port = turn.Root; report = r }
 
 module _ {P E : Type 0} {G : Ghosts P} (state : P → PortState) (faults : P → List PortFault) (group : GroupView E) where
-  -- At a moment of this call the root, which the session held, had flushed this base, and the word was raised to it: so
-  -- the root is what the rule says.
+  -- At a moment of this call the root, which the session held, had flushed this base, and the word was
+  -- raised to it: so the root is what the rule says.
   pub record IsRaisedTo (base : ℕ) (v : Seat P E G) : Type 0 where
     pub known : Shared P E G
     pub since : IsKnownFrom state faults group v known
@@ -48,9 +48,10 @@ module _ {P E : Type 0} {G : Ghosts P} (state : P → PortState) (faults : P →
     pub raised_to : IsRaisedTo base old
     pub is : new ≡ record old { hand = 0; reading = record old.reading { base = base } }
 
-  -- The base is raised, on the root's port and on the desk. It is not below any number that the session had seen or drawn
-  -- before, nor below the front, which was read once and before the first page. Nothing was reported. The session may know
-  -- of greater numbers, drawn and done, and has noted pages; all else of it is as it was.
+  -- The base is raised, on the root's port and on the desk. It is not below any number that the session had
+  -- seen or drawn before, nor below the front, which was read once and before the first page. Nothing was
+  -- reported. The session may know of greater numbers, drawn and done, and has noted pages; all else of it
+  -- is as it was.
   pub record Raises (base : ℕ) (old new : Seat P E G) : Type 0 where
     pub seen : Below base old
     pub front : ℕ

@@ -26,9 +26,9 @@ use Rattle.mq_checkpoint.specs.declared.refusal.CheckpointRefusal.{CheckpointRef
 use Rattle.mq_checkpoint.specs.declared.refusal.CheckpointRefusal.TheVariants as refused
 
 module _ {P E : Type 0} {G : Ghosts P} where
-  -- The session reported this, and was answered these fronts. It may know of greater numbers, drawn and done, and may have
-  -- noted pages. What it is, what it drew, what it read and the base that it knows of stay; of the turns that it holds
-  -- nothing is said.
+  -- The session reported this, and was answered these fronts. It may know of greater numbers, drawn and
+  -- done, and may have noted pages. What it is, what it drew, what it read and the base that it knows of
+  -- stay; of the turns that it holds nothing is said.
   pub record MovesOn (reports : List Charge) (fronts : List MarkAnswer) (old new : Seat P E G) : Type 0 where
     pub parts : new.parts ≡ old.parts
     pub opening : new.opening ≡ old.opening
@@ -43,8 +43,8 @@ module _ {P E : Type 0} {G : Ghosts P} where
     pub answers : new.reading.answers ≡ fronts ++ old.reading.answers
     pub charged : new.reading.charged ≡ reports ++ old.reading.charged
 
--- A port that was refused has gained faults in the call, or has as many as a count of 64 bits can say; of a failure that
--- stopped a queue before, the side had kept it.
+-- A port that was refused has gained faults in the call, or has as many as a count of 64 bits can say; of a
+-- failure that stopped a queue before, the side had kept it.
 abbrev pub IsCauseOf : Cause → Option (ℕ × Why) → List PortFault → List PortFault → Type 0
 IsCauseOf cause.Off kept old new = Rises old new
 IsCauseOf (cause.Failed tx status) kept old new = Rises old new
@@ -52,16 +52,17 @@ IsCauseOf (cause.FailedHome block status) kept old new = Rises old new
 IsCauseOf (cause.Stopped tx why) kept old new = kept ≡ Some (tx, why)
 
 module _ {P E : Type 0} {G : Ghosts P} (state : P → PortState) (faults : P → List PortFault) (group : GroupView E) where
-  -- This may have been known on the session's desk from then on: it is by the rule of the desk, no number that the session
-  -- had seen or been told is above it, and each group that the session had drawn is in it with its number.
+  -- This may have been known on the session's desk from then on: it is by the rule of the desk, no number
+  -- that the session had seen or heard of is above it, and each group that the session had drawn is in it
+  -- with its number.
   pub record IsKnownFrom (v : Seat P E G) (K : Shared P E G) : Type 0 where
     pub opening : v.opening ≡ Some K.opening
     pub ok : IsOk (side_values state faults) group K
     pub seen : v.seen ≤ newest K
     pub drew : Each (λ d. HasNumberAt K.opening.base K.log d.0 d.1) v.drawn
 
-  -- By what was known since then, a side or the root that the session held is what lies there, and its port came to this
-  -- refusal.
+  -- By what was known since then, a side or the root that the session held is what lies there, and its port
+  -- came to this refusal.
   pub data IsCaused (v : Seat P E G) : Turn → Cause → Type 0 where
     at_side : {q : ℕ} {c : Cause} (K : Shared P E G) (s after : QueueSide P E G) → IsKnownFrom v K → IsSide (side_values state faults) group q K s → IsCauseOf c s.kept (faults s.pmr.port) (faults after.pmr.port) → IsCaused v (Side q) c
     at_root : {c : Cause} (K : Shared P E G) (r after : Root P G) → IsOfRoot (report_of c) → IsKnownFrom v K → IsRoot (side_values state faults) group K r → IsCauseOf c None (faults r.port) (faults after.port) → IsCaused v turn.Root c

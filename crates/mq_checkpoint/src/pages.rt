@@ -19,8 +19,8 @@ use mq_turns::{Chair, Desk, Item, Turn};
 use std::alloc::Global;
 use std::sync::Wait;
 
-// A copy of the page's content, where the page waits for a home write: the block is in the map, and its last
-// change logged it and is above the last number whose content came home.
+// A copy of the page's content, where the page waits for a home write: the block is in the map, and its
+// last change logged it and is above the last number whose content came home.
 fn copy_waiting(alloc: Global, cell: &PageCell) -> Result<Option<Block>, OutOfMemory>
     ensures { IfOk result (λ copy. IsCopyOf cell.now copy) }
 {

@@ -20,9 +20,9 @@ use std::sync::Wait;
 /// Writes home each page that waits for it, page by page while other sessions commit, and raises the base,
 /// so that the journal areas have room for what comes above it. Returns the base.
 ///
-/// The chair holds nothing before and after, and at most one page and one port at a time. The geometry is that
-/// of the desk's sides, with a page for each home block and a side for each queue. After a refusal this call
-/// has not raised the base; pages that reached home are marked so.
+/// The chair holds nothing before and after, and at most one page and one port at a time. The geometry is
+/// that of the desk's sides, with a page for each home block and a side for each queue. After a refusal
+/// this call has not raised the base; pages that reached home are marked so.
 pub fn checkpoint<R: Wait, P: Port + Drop, G: Groups>(
     rt: &R,
     alloc: Global,

@@ -7,40 +7,12 @@ ghost use Rattle.mq_turns.specs.Meaning.{newest};
 ghost use Rattle.mq_journal.specs.Numbers.{Shared, machine};
 ghost use Rattle.mq_checkpoint.specs.Steps.{IsRefusedBy, MovesOn};
 
-use mq_blocks::{QueueNo, TxNo};
+use mq_blocks::TxNo;
 use mq_drive::Port;
-use mq_journal::{Groups, JournalMachine, drain};
+use mq_journal::{Groups, JournalMachine, drain_all};
 use mq_side::Cause;
 use mq_turns::{Chair, Desk};
 use std::sync::Wait;
-
-/// Drains the side of each queue, one after another, in rising order of queues: every number up to `at` is
-/// then known to be done. The first refusal ends it. The chair holds no side and not the root, neither
-/// before nor after.
-pub(crate) fn drain_all<R: Wait, P: Port + Drop, G: Groups>(
-    rt: &R,
-    desk: &Desk<JournalMachine<P, G>>,
-    chair: &mut Chair<JournalMachine<P, G>>,
-    queues: u32,
-    at: TxNo,
-) -> Result<(), Cause>
-    requires at { AtDesk desk.now chair.old }
-    requires queues { queues ≡ length (start_of desk.now).sides }
-    requires some { 0 < queues }
-    requires pages { Each (λ h. h.0 < length (start_of desk.now).pages) (view chair.old).held }
-    requires seen { at ≤ (view chair.old).seen }
-    ensures at { AtDesk desk.now chair.new }
-    ensures done { OnOk result (at ≤ (view chair.new).reading.done) }
-    ensures held { (view chair.new).held ≡ (view chair.old).held }
-    ensures moves { OnOk result (MovesOn [] [] (view chair.old) (view chair.new)) }
-    ensures refused { IfErr result (λ c. IsRefusedBy P.state P.faults G.group [] c
-        (view chair.old) (view chair.new)) }
-{
-    for queue in 0..queues {
-        drain(rt, desk, chair, QueueNo(queue), at)?;
-    }
-    Ok(())
-}
 
 /// Looks at the number drawn last, and drains all sides: all numbers up to the returned one are then known
 /// to be done.

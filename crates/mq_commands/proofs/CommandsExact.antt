@@ -7,8 +7,8 @@ use Rattle.mq_blocks.specs.declared.geometry.GeometryRefusal.{GeometryRefusal}
 use Rattle.mq_blocks.specs.declared.geometry.GeometryRefusal.TheVariants.{Queues, Area, Homes}
 use Rattle.mq_commands.specs.Commands.{Dumps, Formats, Lists, RefusesNumbers, SaysOfImage, ShowsFile, dumped, formatted, is_image, listed, no_file, no_geometry, no_image, not_dumped, not_listed, not_saved, not_shown, numbers_of, shown, wants_memory}
 use Rattle.mq_commands.specs.declared.formatting.Numbers.{Numbers}
-use Rattle.mq_ending.specs.Ending.{EndsWith, IsNotLoaded, IsNotSaved, IsUnlessFailed, SaysOf, load_failed, load_memory, load_too_long, loaded, not_loaded, save_failed, save_memory, wanting}
-use Rattle.mq_ending.proofs.Ending.{unless_wanting, still-fault, still-memory}
+use Rattle.mq_ending.specs.Ending.{EndsWith, IsUnlessFailed, SaysOf, loaded, not_loaded, wanting}
+use Rattle.mq_ending.proofs.Ending.{not-loaded-status, not-saved-status, still-memory, unless_wanting}
 use Rattle.mq_image.specs.Drives.{IsRead}
 use Rattle.mq_image.specs.Faults.{HasFault, IsGeometryIn, fault_of}
 use Rattle.mq_image.specs.File.{DriveImage, queue_ports, root_port}
@@ -95,11 +95,6 @@ pub one-held : (contents : Option Held) (name bytes other : List ℕ) → Tells 
 one-held None name bytes other tells holds = absurd tells
 one-held (Some held) name bytes other tells holds = let same : ◌≡◌ {A = Option (List ℕ)} (Some other) (Some bytes) = sym holds ∙ tells in cc
 
-pub not-loaded-status : (name : List ℕ) (old new : FilesState) (status : ℕ) (text : List ℕ) (wanted result : ℕ) → IsNotLoaded name old new status text → IsUnlessFailed status result → IsUnlessFailed wanted result
-not-loaded-status name old new _ _ wanted result (load_failed same rose) ends = still-fault wanted result ends
-not-loaded-status name old new _ _ wanted result (load_too_long same over faults takes) ends = still-fault wanted result ends
-not-loaded-status name old new _ _ wanted result (load_memory same faults) ends = still-memory wanted result ends
-
 pub says-where : (Of : List ℕ → ℕ → List ℕ → Type 0) (name bytes : List ℕ) (wanted : ℕ) (old new : FilesState) (result status : ℕ) (text : List ℕ) → Tells old.contents name (Some bytes) → ((s : ℕ) (t : List ℕ) → Of bytes s t → s ≡ wanted) → SaysOf Of name old new status text → IsUnlessFailed status result → IsUnlessFailed wanted result
 says-where Of name bytes wanted old new result status text tells each (loaded other load of) ends =
     let same : other ≡ bytes = one-held old.contents name bytes other tells load.holds in
@@ -159,10 +154,6 @@ numbers-good : (n : Numbers) (g : Geometry) (e : GeometryRefusal) → numbers_of
 numbers-good n g (Queues found) are refuses = (subst (λ (m : Numbers). RefusesNumbers m (Queues found)) (sym are) refuses).1 (good-numbers g).0
 numbers-good n g (Area found) are refuses = (subst (λ (m : Numbers). RefusesNumbers m (Area found)) (sym are) refuses).2 (good-numbers g).1
 numbers-good n g (Homes meta zone) are refuses = (subst (λ (m : Numbers). RefusesNumbers m (Homes meta zone)) (sym are) refuses).4 (good-numbers g).2
-
-pub not-saved-status : (name : List ℕ) (old new : FilesState) (status : ℕ) (text : List ℕ) (wanted result : ℕ) → IsNotSaved name old new status text → IsUnlessFailed status result → IsUnlessFailed wanted result
-not-saved-status name old new _ _ wanted result (save_failed others rose taken) ends = still-fault wanted result ends
-not-saved-status name old new _ _ wanted result (save_memory same faults taken) ends = still-memory wanted result ends
 
 formats-done : (n : Numbers) (name : List ℕ) (g : Geometry) (old new : FilesState) (result status : ℕ) (text : List ℕ) → numbers_of g ≡ n → Formats n name old new status text → IsUnlessFailed status result → IsUnlessFailed 0 result
 formats-done n name g old new result _ _ are (formatted h x own empty save) ends = ends

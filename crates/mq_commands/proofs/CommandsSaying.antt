@@ -6,7 +6,7 @@ use Rattle.mq_blocks.specs.declared.geometry.GeometryRefusal.{GeometryRefusal}
 use Rattle.mq_commands.specs.Commands.{Formats, RefusesNumbers, SavesAs, SaysOfImage, ShowsFile, formatted, no_file, no_geometry, no_image, not_saved, numbers_of, saved, shown, unsaved, wants_memory}
 use Rattle.mq_commands.specs.Lines.{file_line, geometry_line, path_line}
 use Rattle.mq_commands.specs.declared.formatting.Numbers.{Numbers}
-use Rattle.mq_ending.specs.Ending.{EndsWith, IsLoaded, IsNotLoaded, IsSaved, SaysOf, load_failed, load_memory, load_too_long, loaded, memory_line, not_loaded, wanting}
+use Rattle.mq_ending.specs.Ending.{EndsWith, IsLoaded, IsNotLoaded, IsSaved, SaysOf, loaded, memory_line, not_loaded, wanting}
 use Rattle.mq_image.specs.Faults.{HasFault, Refuses}
 use Rattle.mq_image.specs.File.{DriveImage, image_bytes}
 use Rattle.mq_images.specs.Empty.{IsEmptyDrive}
@@ -59,12 +59,6 @@ says stat words Of name bytes old new before mid after (Err e) result load same 
 pub says-not : (Of : List ℕ → ℕ → List ℕ → Type 0) (name : List ℕ) (old new : FilesState) (before after : SinkState) (result : ℕ) → (status : ℕ) × (text : List ℕ) × IsNotLoaded name old new status text × EndsWith status text result before after
     → (status : ℕ) × (text : List ℕ) × SaysOf Of name old new status text × EndsWith status text result before after
 says-not Of name old new before after result said = (said.0, said.1, not_loaded said.2, said.3)
-
--- no name changes
-pub not-loaded-same : (name : List ℕ) (old new : FilesState) (status : ℕ) (text : List ℕ) → IsNotLoaded name old new status text → new.contents ≡ old.contents
-not-loaded-same name old new _ _ (load_failed same rose) = same
-not-loaded-same name old new _ _ (load_too_long same over faults takes) = same
-not-loaded-same name old new _ _ (load_memory same faults) = same
 
 -- a tree that is alike is read alike
 pub reads-along : (t v : Volume) (path : Path) (r : Result (List ℕ) Fault) → IsAlike t v → ReadsAs t path r → ReadsAs v path r

@@ -1,5 +1,3 @@
 pub mod CommandsExact
 pub mod CommandsSaying
-pub mod Generates
 pub mod Recovers
-pub mod RunsScripts

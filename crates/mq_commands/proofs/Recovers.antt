@@ -6,7 +6,7 @@ use Rattle.mq_commands.specs.Commands.{SavesAs, SaysOfImage, saved, unsaved}
 use Rattle.mq_commands.specs.Recovers.{IsRecoveredAs, Recovers, RefusesRecovery, not_recovered, recovered_text}
 use Rattle.mq_commands.specs.Recovers as recovers
 use Rattle.mq_ending.specs.Ending.{EndsWith, IsLoaded, IsNotLoaded, IsSaved, IsUnlessFailed, memory_line, not_loaded}
-use Rattle.mq_ending.proofs.Ending.{unless_wanting}
+use Rattle.mq_ending.proofs.Ending.{not-saved-status, unless_wanting}
 use Rattle.mq_image.specs.Drives.{IsRead}
 use Rattle.mq_image.specs.Faults.{HasFault}
 use Rattle.mq_image.specs.File.{DriveImage, image_bytes}
@@ -17,7 +17,7 @@ use Rattle.mq_images.specs.declared.recovery.RecoveredImage.{RecoveredImage}
 use Rattle.mq_images.proofs.Standing.{read-refused}
 use Rattle.mq_outside.specs.Outside.{FilesState, SinkState, Tells}
 use Rattle.mq_recover.specs.declared.refusal.ImageFault.{ImageFault}
-use Rattle.mq_commands.proofs.CommandsExact.{not-saved-status, of-image, one-held, read-faulty, read-once, refused-status, says-where}
+use Rattle.mq_commands.proofs.CommandsExact.{of-image, one-held, read-faulty, read-once, refused-status, says-where}
 use Rattle.mq_commands.proofs.CommandsSaying.{says}
 
 -- the end of `recover`

@@ -23,7 +23,8 @@ use Rattle.mq_tree.specs.Trees.{ReadsAs}
 use Rattle.mq_tree.specs.Volume.{Path, Volume}
 use Rattle.mq_tree.specs.declared.request.Fault.{Fault}
 
--- The bytes are those of an image, of which this is to be said; or they are none, and the line tells the first fault.
+-- The bytes are those of an image, of which this is to be said; or they are none, and the line names the
+-- first fault.
 pub data SaysOfImage (Of : DriveImage → (status : ℕ) → (text : List ℕ) → Type 0) (bytes : List ℕ) : (status : ℕ) → (text : List ℕ) → Type 0 where
   is_image : (x : DriveImage) {status : ℕ} {text : List ℕ} → IsRead x bytes → Of x status text → SaysOfImage Of bytes status text
   no_image : (e : FileFault) → HasFault bytes (Some e) → SaysOfImage Of bytes 3 (file_line e)
@@ -63,7 +64,8 @@ RefusesNumbers n (Queues found) = (found ≡ n.queues) × (IsQueues n.queues →
 RefusesNumbers n (Area found) = (found ≡ n.area) × IsQueues n.queues × (IsArea n.area → ⊥)
 RefusesNumbers n (Homes meta zone) = (meta ≡ n.meta) × (zone ≡ n.zone) × IsQueues n.queues × IsArea n.area × (AreHomes n.queues n.meta n.zone → ⊥)
 
--- what `format` makes of a name and numbers, and what it says of them, by what the files show before and after
+-- what `format` makes of a name and numbers, and what it says of them, by what the files show before and
+-- after
 pub data Formats (n : Numbers) (name : List ℕ) (old new : FilesState) : (status : ℕ) → (text : List ℕ) → Type 0 where
   formatted : (g : Geometry) (x : DriveImage) → numbers_of g ≡ n → IsEmptyDrive g x → IsSaved name (image_bytes x) old new → Formats n name old new 0 (codes "formatted\n")
   no_geometry : (e : GeometryRefusal) → RefusesNumbers n e → new ≡ old → Formats n name old new 3 (geometry_line e)

@@ -3,7 +3,7 @@ use Rattle.std.specs.Prelude.{ℕ, List, ◌++◌, codes}
 use Rattle.std.specs.Fmt.{decimal}
 use Rattle.mq_blocks.specs.declared.geometry.GeometryRefusal.{GeometryRefusal}
 use Rattle.mq_blocks.specs.declared.geometry.GeometryRefusal.TheVariants.{Queues, Area, Homes}
-use Rattle.mq_commands.specs.Names.{cause_name, corrupt_name, descriptor_name, entry_name, fault_name}
+use Rattle.mq_commands.specs.Names.{corrupt_name, descriptor_name, entry_name, fault_name}
 use Rattle.mq_ending.specs.Ending.{memory_line}
 use Rattle.mq_image.specs.declared.fault.FileFault.{FileFault}
 use Rattle.mq_image.specs.declared.fault.FileFault.TheVariants as file
@@ -13,7 +13,6 @@ use Rattle.mq_recover.specs.declared.refusal.ChainRefusal.{ChainRefusal}
 use Rattle.mq_recover.specs.declared.refusal.ChainRefusal.TheVariants as chain
 use Rattle.mq_recover.specs.declared.refusal.ImageFault.{ImageFault}
 use Rattle.mq_recover.specs.declared.refusal.ImageFault.TheVariants as image
-use Rattle.mq_script.specs.declared.refusal.ScriptCause.{ScriptCause}
 use Rattle.mq_tree.specs.declared.corrupt.CorruptCause.{CorruptCause}
 use Rattle.mq_tree.specs.declared.request.Fault.{Fault}
 
@@ -82,13 +81,3 @@ volume_line standing.OutOfMemory = memory_line
 
 abbrev pub path_line : Fault → List ℕ
 path_line fault = codes "path " ++ (fault_name fault ++ codes "\n")
-
--- ---- scripts
-
--- the first line of a script that is refused, and why
-abbrev pub script_line : (name : List ℕ) → (line : ℕ) → ScriptCause → List ℕ
-script_line name line cause = codes "script " ++ (name ++ (codes " line " ++ (decimal line ++ (codes ": " ++ (cause_name cause ++ codes "\n")))))
-
--- more scripts than queues
-abbrev pub scripts_line : (count queues : ℕ) → List ℕ
-scripts_line count queues = codes "scripts " ++ (decimal count ++ (codes " queues " ++ (decimal queues ++ codes "\n")))

@@ -4,8 +4,6 @@ use Rattle.mq_area.specs.declared.refusal.DescriptorRefusal.{DescriptorRefusal}
 use Rattle.mq_area.specs.declared.refusal.DescriptorRefusal.TheVariants as descriptor
 use Rattle.mq_nvme.specs.declared.write.EntryRefusal.{EntryRefusal}
 use Rattle.mq_nvme.specs.declared.write.EntryRefusal.TheVariants as entry
-use Rattle.mq_script.specs.declared.refusal.ScriptCause.{ScriptCause}
-use Rattle.mq_script.specs.declared.refusal.ScriptCause.TheVariants as script
 use Rattle.mq_tree.specs.declared.corrupt.CorruptCause.{CorruptCause}
 use Rattle.mq_tree.specs.declared.corrupt.CorruptCause.TheVariants as corrupt
 use Rattle.mq_tree.specs.declared.request.Fault.{Fault}
@@ -50,13 +48,3 @@ fault_name fault.TooBig = codes "TooBig"
 fault_name fault.Subtree = codes "Subtree"
 fault_name fault.NoSpace = codes "NoSpace"
 fault_name fault.NoInodes = codes "NoInodes"
-
-abbrev pub cause_name : ScriptCause → List ℕ
-cause_name script.Size = codes "Size"
-cause_name script.Bytes = codes "Bytes"
-cause_name script.Verb = codes "Verb"
-cause_name script.Arguments = codes "Arguments"
-cause_name script.Path = codes "Path"
-cause_name script.Number = codes "Number"
-cause_name script.Data = codes "Data"
-cause_name script.Open = codes "Open"

@@ -1,20 +1,17 @@
 // What a command has to say, and how it is said.
 ghost use Rattle.std.specs.Prelude.{◌≡◌, ◌≢◌, ℕ, List, Err, IfOk, MatchResult};
 ghost use Rattle.mq_commands.specs.Commands.{SavesAs};
-ghost use Rattle.mq_commands.specs.Lines.{drive_line, file_line, path_line, script_line, scripts_line, volume_line};
+ghost use Rattle.mq_commands.specs.Lines.{drive_line, file_line, path_line, volume_line};
 ghost use Rattle.std.specs.String.{string_bytes};
 ghost use Rattle.mq_ending.specs.Ending.{EndsWith, memory_line};
 
-use crate::lines::{
-    line_of_drive, line_of_file, line_of_path, line_of_script, line_of_scripts, line_of_volume,
-};
+use crate::lines::{line_of_drive, line_of_file, line_of_path, line_of_volume};
 use mq_blocks::OutOfMemory;
-use mq_ending::{DONE, IMAGE, REFUSED, save_or_say, say, say_memory};
+use mq_ending::{DONE, IMAGE, save_or_say, say, say_memory};
 use mq_image::FileFault;
 use mq_images::StandingRefusal;
 use mq_outside::{Files, Sink};
 use mq_recover::ImageFault;
-use mq_script::{ScriptCause, ScriptRefusal};
 use mq_tree::Fault;
 use std::alloc::Global;
 
@@ -76,37 +73,6 @@ pub fn refuse_path(alloc: Global, fault: Fault) -> Result<Answer, OutOfMemory>
     ensures { IfOk result (λ a. (a.status ≡ 3) × (a.text.items ≡ path_line fault)) }
 {
     Ok(refused(line_of_path(alloc, fault)?))
-}
-
-/// The answer to a script that is refused at a line.
-pub fn refuse_script(
-    alloc: Global,
-    name: &str,
-    refusal: ScriptRefusal,
-) -> Result<Answer, OutOfMemory>
-    ensures { IfOk result (λ a. (line : ℕ)
-        × (cause : ScriptCause)
-        × (refusal ≡ ScriptRefusal.At line cause)
-        × (a.status ≡ 2)
-        × (a.text.items ≡ script_line name.now line cause)) }
-{
-    match refusal {
-        ScriptRefusal::At { line, cause } => Ok(Answer {
-            status: REFUSED,
-            text: line_of_script(alloc, name, line, cause)?.into_bytes(),
-        }),
-        ScriptRefusal::OutOfMemory => Err(OutOfMemory),
-    }
-}
-
-/// The answer to more scripts than queues.
-pub fn refuse_scripts(alloc: Global, count: usize, queues: u32) -> Result<Answer, OutOfMemory>
-    ensures { IfOk result (λ a. (a.status ≡ 2) × (a.text.items ≡ scripts_line count queues)) }
-{
-    Ok(Answer {
-        status: REFUSED,
-        text: line_of_scripts(alloc, count, queues)?.into_bytes(),
-    })
 }
 
 /// Prints an answer, or that memory ran out.

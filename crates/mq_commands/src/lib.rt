@@ -1,20 +1,18 @@
-//! The commands on images: each loads an image or makes one, and says one text with a status.
+//! The commands on images but for runs: each loads an image or makes one, and says one text with a status.
 #![tactic(auto)]
 
 mod answer;
 mod dumping;
 mod formatting;
-mod generating;
 mod lines;
 mod listing;
 mod loading;
 mod names;
 mod recovering;
-mod running;
 
+pub use answer::{Answer, refuse_file, refuse_volume, say_answer};
 pub use dumping::dump;
 pub use formatting::{Numbers, format};
-pub use generating::{Workload, generate};
 pub use listing::{cat, ls};
+pub use loading::read_loaded;
 pub use recovering::recover;
-pub use running::run;

@@ -1,16 +1,13 @@
 // The lines of refusals.
 ghost use Rattle.std.specs.Prelude.{◌≡◌, IfOk};
 ghost use Rattle.std.specs.String.{string_bytes};
-ghost use Rattle.mq_commands.specs.Lines.{chain_line, corrupt_line, drive_line, file_line, geometry_line, image_geometry_line, path_line, script_line, scripts_line, volume_line};
+ghost use Rattle.mq_commands.specs.Lines.{chain_line, corrupt_line, drive_line, file_line, geometry_line, image_geometry_line, path_line, volume_line};
 
-use crate::names::{
-    name_of_cause, name_of_corrupt, name_of_descriptor, name_of_entry, name_of_fault,
-};
+use crate::names::{name_of_corrupt, name_of_descriptor, name_of_entry, name_of_fault};
 use mq_blocks::GeometryRefusal;
 use mq_image::FileFault;
 use mq_images::StandingRefusal;
 use mq_recover::{ChainRefusal, ImageFault};
-use mq_script::ScriptCause;
 use mq_tree::{CorruptCause, Fault};
 use std::alloc::{AllocError, Global};
 
@@ -121,22 +118,4 @@ pub fn line_of_path(alloc: Global, fault: Fault) -> Result<String, AllocError>
 {
     let name = name_of_fault(fault);
     format!(in alloc; "path {name}\n")
-}
-
-pub fn line_of_script(
-    alloc: Global,
-    name: &str,
-    line: u32,
-    cause: ScriptCause,
-) -> Result<String, AllocError>
-    ensures { IfOk result (λ s. string_bytes s ≡ script_line name.now line cause) }
-{
-    let cause = name_of_cause(cause);
-    format!(in alloc; "script {name} line {line}: {cause}\n")
-}
-
-pub fn line_of_scripts(alloc: Global, count: usize, queues: u32) -> Result<String, AllocError>
-    ensures { IfOk result (λ s. string_bytes s ≡ scripts_line count queues) }
-{
-    format!(in alloc; "scripts {count} queues {queues}\n")
 }

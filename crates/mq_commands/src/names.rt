@@ -1,10 +1,9 @@
 // How causes are named in the lines of the program.
 ghost use Rattle.std.specs.Prelude.{◌≡◌};
-ghost use Rattle.mq_commands.specs.Names.{cause_name, corrupt_name, descriptor_name, entry_name, fault_name};
+ghost use Rattle.mq_commands.specs.Names.{corrupt_name, descriptor_name, entry_name, fault_name};
 
 use mq_area::DescriptorRefusal;
 use mq_nvme::EntryRefusal;
-use mq_script::ScriptCause;
 use mq_tree::{CorruptCause, Fault};
 
 pub fn name_of_entry(cause: EntryRefusal) -> &'static str
@@ -64,20 +63,5 @@ pub fn name_of_fault(fault: Fault) -> &'static str
         Fault::Subtree => "Subtree",
         Fault::NoSpace => "NoSpace",
         Fault::NoInodes => "NoInodes",
-    }
-}
-
-pub fn name_of_cause(cause: ScriptCause) -> &'static str
-    ensures { result.now ≡ cause_name cause }
-{
-    match cause {
-        ScriptCause::Size => "Size",
-        ScriptCause::Bytes => "Bytes",
-        ScriptCause::Verb => "Verb",
-        ScriptCause::Arguments => "Arguments",
-        ScriptCause::Path => "Path",
-        ScriptCause::Number => "Number",
-        ScriptCause::Data => "Data",
-        ScriptCause::Open => "Open",
     }
 }

@@ -8,7 +8,7 @@ ghost use Rattle.mq_commands.specs.Recovers.{IsRecoveredAs, IsRecoveryFile, Reco
 ghost use Rattle.mq_ending.specs.Ending.{EndsWith, IsUnlessFailed};
 ghost use Rattle.mq_image.specs.Drives.{IsDrive, IsRead};
 ghost use Rattle.mq_image.specs.Faults.{HasFault};
-ghost use Rattle.mq_image.specs.File.{DriveImage as Image, image_bytes};
+ghost use Rattle.mq_image.specs.File.{DriveImage as Image};
 ghost use Rattle.mq_image.specs.declared.fault.FileFault.{FileFault as FaultOfFile};
 ghost use Rattle.mq_images.specs.Standing.{Reads, RefusesDrive};
 ghost use Rattle.mq_outside.specs.Outside.{Tells};
@@ -73,7 +73,8 @@ fn recovery_of(
     Ok(Recovery { file, text })
 }
 
-// Recovers an image, or says why it is not readable. The file of what that leaves takes the memory of these bytes.
+// Recovers an image, or says why it is not readable. The file of what that leaves takes the memory of these
+// bytes.
 fn recover_drive(
     alloc: Global,
     bytes: Vec<u8>,

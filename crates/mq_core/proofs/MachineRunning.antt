@@ -7,7 +7,7 @@ use Rattle.mq_core.specs.Machine.{Event, IsAllowed, AreAllowed, IsRefusedAt, IsR
 use Rattle.mq_core.specs.declared.event.CoreRefusal.{CoreRefusal}
 use Rattle.mq_core.specs.declared.event.CoreRefusal.TheVariants.{NotAllowed, OutOfMemory}
 
--- So many events have happened from the start on, and those that are left lead from here to where all
+-- The first `index` events have happened, and those that are left lead from here to where all
 -- of them lead from the start.
 pub record Leads (vs : List Event) (start : State) (rest : List Event) (s : State) (index : ℕ) : Type 0 where
   pub done : run plain rest s ≡ run plain vs start

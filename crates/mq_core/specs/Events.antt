@@ -75,7 +75,7 @@ begin_home g x block p = after_begin p (home_lba g x) block
 abbrev pub end_home : Geometry → ℕ → List ℕ → PortState → PortState
 end_home g x block p = after_end p (home_lba g x) block
 
--- The part that speaks of its queue's port: nothing that was drawn waits for the ring, no command has
+-- The part about its queue's port: nothing that was drawn waits for the ring, no command has
 -- failed, and the entries fit into the ring and the area.
 pub record HasRoom (g : Geometry) (from word : ℕ) (txs : List Tx) (t : Tx) (p : PortState) : Type 0 where
   pub rung : p.doorbell ≡ end_of from txs

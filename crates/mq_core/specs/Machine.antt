@@ -63,7 +63,7 @@ IsRefusedAt e [] s n = ⊥
 IsRefusedAt e (v ∷ vs) s zero = IsAllowed e v s → ⊥
 IsRefusedAt e (v ∷ vs) s (suc n) = IsAllowed e v s × IsRefusedAt e vs (happens e v s) n
 
--- why a run is refused: an event isn't allowed, or memory was not to be had
+-- why a run is refused: an event isn't allowed, or out of memory
 abbrev pub IsRefusal : Entries → List Event → State → CoreRefusal → Type 0
 IsRefusal e vs s (NotAllowed n) = IsRefusedAt e vs s n
 IsRefusal e vs s OutOfMemory = Unit {0}

@@ -73,7 +73,7 @@ block_put blocks more at block held rng after last put same is =
     let both : (more, last) ≡ (set blocks at (Some held), after) = λ i. (put i, same i) in
     both ∙ ap (λ (p : Option (List ℕ) × Lcg). (set blocks at p.0, p.1)) is
 
--- ---- the doubt of one block ends
+-- ---- one block is no longer uncertain
 
 one_left : {A : Type 0} (k : ℕ) (x : A) (b : Bool) → while_in (cond b None (Some k)) (x ∷ []) ≡ cond (not b) (x ∷ []) []
 one_left k x true = refl

@@ -65,7 +65,8 @@ pub below_few : (ts : List ℕ) → ((t : ℕ) → times t ts ≤ 1) → (m : �
 below_few ts once zero = let e = none_below ts in omega arith
 below_few ts once (suc m) = let ih = below_few ts once m in let e = below_suc m ts in let o = once m in omega arith
 
--- where the tickets of all are the numbers below n, each once, those below m are so many
+-- where the tickets of all are the numbers below n, each once, the number of those below m is the lesser of
+-- m and n
 pub total_below : (n : ℕ) (vs : List Tickets) → ((t : ℕ) → total (λ v. times t v.drawn) vs ≡ tick (ltb t n)) → (m : ℕ) → total (λ v. below m v.drawn) vs ≡ min m n
 total_below n vs once zero = let e = total_zero (λ v. below 0 v.drawn) vs (λ i v at. none_below v.drawn) in omega arith
 total_below n vs once (suc m) =

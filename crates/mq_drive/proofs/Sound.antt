@@ -52,7 +52,7 @@ commands_left p at capacity left same is = record {
 
 -- ---- a write ends, while the power is on
 
--- with an error: it is the failure that is kept, and its block is in doubt
+-- with an error: it is the failure that is kept, and its block is uncertain
 pub writes_failed : (p : Device) (posted : List Command) (stored : List (Option (List ℕ))) (certain : List Bool) (doubt : Option ℕ) (f : Failure) (at : ℕ) → p.power.offs ≡ 0
     → length stored ≡ length p.blocks.stored.items → AreOwn p (length p.blocks.stored.items) posted → IsBlock (place_of p) (length p.blocks.stored.items) (written_by f)
     → doubt ≡ Some at → at ≡ index_of (device_state p) (written_by f)
@@ -66,7 +66,7 @@ writes_failed p posted stored certain doubt f at on same own block is is_at = re
   under_way_doubt = none_for p.under_way _ (nothing_open p on);
 }
 
--- with success: it ends the doubt of its block
+-- with success: no failure leaves its block uncertain any more
 pub writes_done : (p : Device) (posted : List Command) (stored : List (Option (List ℕ))) (certain : List Bool) (doubt : Option ℕ) (at : ℕ) → p.power.offs ≡ 0
     → length stored ≡ length p.blocks.stored.items → AreOwn p (length p.blocks.stored.items) posted → doubt ≡ doubt_after p.blocks.doubt at
     → AreWritten (place_of p) p.pending.items posted (record { stored = stored; certain = certain; doubt = doubt; failure = p.failure; under_way = p.under_way })

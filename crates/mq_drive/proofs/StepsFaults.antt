@@ -68,7 +68,7 @@ homes_kept s new faults more (Ok (Done c)) gives = elim (cases_eq (status_of c) 
 ]
 homes_kept s new faults more (Err x) gives = (ap (λ (t : PortState). t.homes_first) gives.1, ap (λ (t : PortState). t.homes_size) gives.1)
 
--- ---- what the faults tell
+-- ---- what the faults say
 
 is_off : PortFault → Bool
 is_off PowerOff = true

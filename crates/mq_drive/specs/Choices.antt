@@ -23,11 +23,11 @@ use Rattle.mq_drive.specs.declared.port.HomeStep.TheVariants as home
 unfoldable pub generator_of : (seed number : ℕ) → Lcg
 generator_of seed number = pcg64_of_seed (pcg32_seed 32 ((seed + number) % 2 ^ 64))
 
--- an index among so many; where there is one alone, no word is taken
+-- an index below `count`; if `count` is 1, no word of the generator is taken
 unfoldable pub chosen : (count : ℕ) → Lcg → ℕ × Lcg
 chosen count rng = if count == 1 then (0, rng) else ((pcg64 rng).0 % count, (pcg64 rng).1)
 
--- one of two numbers; where they are the same, no word is taken
+-- one of two numbers; where they are the same, no word of the generator is taken
 unfoldable pub either_of : (old new : ℕ) → Lcg → ℕ × Lcg
 either_of old new rng = if old == new then (old, rng) else (if (pcg64 rng).0 % 2 == 1 then new else old, (pcg64 rng).1)
 
@@ -35,7 +35,7 @@ either_of old new rng = if old == new then (old, rng) else (if (pcg64 rng).0 % 2
 unfoldable pub next_bytes : (count : ℕ) → Lcg → List ℕ × Lcg
 next_bytes count rng = fill_via_u64 pcg64 count rng
 
--- the old value, the new one, or the next that the generator gives: a word modulo 3 tells
+-- the old value, the new one, or the next that the generator gives, by a word modulo 3
 unfoldable pub torn : {A : Type 0} → (next : Lcg → A × Lcg) → (old new : A) → Lcg → A × Lcg
 torn next old new rng =
     let word = (pcg64 rng).0 % 3 in
@@ -55,7 +55,7 @@ pub record Chance : Type 0 where
   pub failed : List Command
   pub begun : List HomeWrite
 
--- a write of this block has completed: the doubt of that block ends
+-- a write of this block has completed: its failed commands and begun home writes no longer count
 abbrev pub without : PortState → (lba : ℕ) → Chance → Chance
 without s lba r = record r {
   failed = filter (λ c. not (index_of s c.lba == index_of s lba)) r.failed;
@@ -100,7 +100,7 @@ next_slot rng = (dwords_of (next_bytes 64 rng).0, (next_bytes 64 rng).1)
 unfoldable pub next_block : Lcg → Option (List ℕ) × Lcg
 next_block rng = (Some (next_bytes 4096 rng).0, (next_bytes 4096 rng).1)
 
--- the slots of so many counts, from this one on
+-- the slots of `left` counts, from `count` on
 abbrev pub torn_slots : (left count : ℕ) → (staged slots : List (List ℕ)) → Lcg → List (List ℕ) × Lcg
 torn_slots zero count staged slots rng = (slots, rng)
 torn_slots (suc left) count staged slots rng =

@@ -16,13 +16,13 @@ pub record Counts : Type 0 where
   pub completed : ℕ
   pub executed : ℕ
 
--- the phase of the completion after so many: 1 at first, and inverted at each pass through a
--- completion queue of the ring's depth
+-- the phase of the completion that follows this number of others: 1 at first, and inverted at each pass
+-- through a completion queue of the ring's depth
 abbrev pub phase_after : ℕ → Bool
 phase_after completed = nat_eq (completed / depth % 2) 0
 
--- the status of the command after so many: Write Fault where it is the one that is to fail, else
--- success
+-- the status of the command that follows `executed` others: Write Fault where it is the one that is to
+-- fail, else success
 abbrev pub status_after : PortState → ℕ → ℕ
 status_after s executed = if fails_next s.fail executed then 640 else 0
 

@@ -31,7 +31,7 @@ abbrev pub earlier : List ℕ → List ℕ
 earlier [] = []
 earlier (t ∷ ts) = ts
 
--- a view of so many seats that have drawn nothing
+-- a view of `seats` seats that have drawn nothing
 abbrev pub fresh : ℕ → Tickets
 fresh seats = record { seats = seats; drawn = [] }
 
@@ -52,7 +52,7 @@ pub record Lawful (limit seats : ℕ) (s : State (Unit {0}) Tickets) : Type 0 wh
   pub each : (j : ℕ) (v : Tickets) → get_elem? s.views j ≡ some v → Fits limit v
   pub small : (limit ≤ 2 ^ 63) × (seats < 2 ^ 32)
 
--- what the one step tells: the counter's number is the seat's next ticket, and all its tickets differ
+-- what holds after the one step: the counter's number is the seat's next ticket, and all its tickets differ
 abbrev pub drew : Step (Unit {0}) → Me (Unit {0}) Tickets → ℕ → Me (Unit {0}) Tickets → Type 0
 drew st me n me' =
     (me' ≡ (record { seats = me.0.seats; drawn = n ∷ me.0.drawn }, me.1)) × ((m : ℕ) → below m (n ∷ me.0.drawn) ≤ m)

@@ -6,7 +6,7 @@ use Rattle.mq_drive.specs.Fuse.{above}
 use Rattle.mq_drive.specs.declared.fuse.Fuse.{Fuse}
 use Rattle.mq_drive.specs.declared.fuse.FuseSeat.{FuseSeat}
 
--- the numbers that tell one table from all others
+-- the numbers that identify a table
 abbrev pub numbers_of : TableId → List ℕ
 numbers_of t = t.words ∷ t.slots ∷ t.views_name ∷ t.atom ∷ t.block ∷ t.offset ∷ t.slot_names
 

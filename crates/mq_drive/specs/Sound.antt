@@ -61,7 +61,7 @@ pub record Counted : Type 0 where
 
 -- ---- what holds of each topic
 
--- its area stands before its home blocks, and the two are all its blocks
+-- its area stands before its homes, the two are all its blocks, and its 16-bit identifier is its role's
 pub record IsPlaced (port : Place) (blocks : ℕ) : Type 0 where
   pub sized : port.area.size + port.homes.size ≡ blocks
   pub area_before : port.area.first + port.area.size ≤ port.homes.first
@@ -79,7 +79,7 @@ pub record AreSlots (role : Role) (slots : Slots) (doorbell : ℕ) (pending : Li
   pub flushed_low : doorbell ≤ slots.flushed_end
   pub flushed_high : slots.flushed_end ≤ doorbell + length pending
 
--- the commands stand in order of count
+-- the commands stand in order of count, and each of the two lists has room for all that a ring may hold
 pub record AreQueued (queued : Queued) (doorbell head stored_head : ℕ) : Type 0 where
   pub pending_room : usable_depth ≤ queued.pending_capacity
   pub posted_room : usable_depth ≤ queued.posted_capacity
@@ -96,7 +96,7 @@ pub record AreWords (role : Role) (kept : Words) : Type 0 where
   pub queue_base : IsSome (queue_in role) → (kept.base ≡ 0) × (kept.stored_base ≡ 0)
   pub root_words : IsNone (queue_in role) → (kept.doorbell ≡ 0) × (kept.head ≡ 0) × (kept.stored_head ≡ 0)
 
--- the block stands among so many blocks of the port
+-- the block is one of the port's, which has `blocks` of them
 abbrev pub IsBlock : Place → (blocks lba : ℕ) → Type 0
 IsBlock port blocks lba =
     (port.area.first ≤ lba) × (index_in port.area.first port.area.size port.homes.first lba < blocks)
@@ -106,7 +106,7 @@ pub record AreWritten (port : Place) (pending posted : List Command) (written : 
   pub pending_own : All (λ c. IsBlock port (length written.stored) c.lba) pending
   pub posted_own : All (λ c. IsBlock port (length written.stored) c.lba) posted
   pub failure_own : ForSome written.failure (λ f. IsBlock port (length written.stored) (written_by f))
-  -- a block that is in doubt for a failure is the one that the failed write was to write
+  -- the block that a failure leaves uncertain is the one that the failed write was to write
   pub failure_doubt : ForSome written.failure (λ f. ForSome written.doubt (λ k.
       index_in port.area.first port.area.size port.homes.first (written_by f) ≡ k))
   pub under_way_own : ForSome written.under_way (λ w. IsBlock port (length written.stored) w.lba)

@@ -45,7 +45,8 @@ impl Blocks {
         read_block(&self.stored, k, into);
     }
 
-    /// A write of the block has completed: if the block was uncertain, it no longer is.
+    /// A write of the block has completed: posted commands aside, the block is certain to hold what was
+    /// written.
     pub fn complete(&mut self, k: usize, block: Block)
         requires { k < length self.old.stored.items }
         ensures blocks { self.new.stored.items ≡ slice_set self.old.stored.items k (Some block) }

@@ -21,8 +21,8 @@ use rand_pcg::Lcg128Xsl64;
 use std::alloc::Global;
 use std::collections::VecDeque;
 
-// The phase of the completion after so many: 1 at first, and inverted at each pass through a
-// completion queue of the ring's depth (NVM Express 1.4, "Completion Queue Entry").
+// The phase of the completion that follows this number of others: 1 at first, and inverted at each pass
+// through a completion queue of the ring's depth (NVM Express 1.4, "Completion Queue Entry").
 fn phase_after(completions: u64) -> bool
     ensures is { IsTrue result ↔ (completions / depth % 2 ≡ 0) }
     ensures phase { result ≡ phase_after completions }

@@ -2,8 +2,8 @@
 use Rattle.std.proofs.Common.{◌≡◌, ◌≤◌, ℕ, zero, suc, ◌+◌, List, [], ◌∷◌, ◌++◌, length, take, true, false, Bool, cond, Option, Some, None, refl, inl, inr, sym, ◌∙◌, ap, subst, arith, append_assoc, length-append}
 use Rattle.std.proofs.lemmas.Bool.{false≢true}
 use Rattle.std.specs.Prelude.{Result, Ok, Err, MatchResult, IsErr, ◌⊎◌, nat_eq}
-use Rattle.mq_outside.specs.Outside.{SinkState, AppendsPrefix, appended}
-use Rattle.mq_ending.specs.Ending.{EndsWith, IsUnlessFailed}
+use Rattle.mq_outside.specs.Outside.{FilesState, SinkState, AppendsPrefix, appended}
+use Rattle.mq_ending.specs.Ending.{EndsWith, IsNotLoaded, IsNotSaved, IsUnlessFailed, load_failed, load_memory, load_too_long, save_failed, save_memory}
 
 pub on_err : {A E : Type 0} (r : Result A E) (P : A → Type 0) {Q : E → Type 0} → IsErr r → ((e : E) → Q e) → MatchResult r P Q
 on_err (Ok x) P err q = absurd (false≢true err)
@@ -38,7 +38,7 @@ prefix_longer old new first bytes prefix = (
   prefix.2 ∙ ap (appended old) (sym (take_within first bytes prefix.0 prefix.1)),
 )
 
--- ---- what a status tells
+-- ---- what a status says
 
 pub four-or-six : (b : Bool) (result : ℕ) → result ≡ cond b 4 6 → (result ≡ 4) ⊎ (result ≡ 6)
 four-or-six true result e = inl e
@@ -57,3 +57,21 @@ pub unless_wanting :
 unless_wanting status text result old new (inl e) = inl e.0
 unless_wanting status text result old new (inr (inl e)) = inr (inl e.0)
 unless_wanting status text result old new (inr (inr e)) = inr (four-or-six (nat_eq status 4) result e.0)
+
+-- ---- files that are not loaded or not saved
+
+-- the status of why they are not is one of those that may always come
+pub not-loaded-status : (name : List ℕ) (old new : FilesState) (status : ℕ) (text : List ℕ) (wanted result : ℕ) → IsNotLoaded name old new status text → IsUnlessFailed status result → IsUnlessFailed wanted result
+not-loaded-status name old new _ _ wanted result (load_failed same rose) ends = still-fault wanted result ends
+not-loaded-status name old new _ _ wanted result (load_too_long same over faults takes) ends = still-fault wanted result ends
+not-loaded-status name old new _ _ wanted result (load_memory same faults) ends = still-memory wanted result ends
+
+pub not-saved-status : (name : List ℕ) (old new : FilesState) (status : ℕ) (text : List ℕ) (wanted result : ℕ) → IsNotSaved name old new status text → IsUnlessFailed status result → IsUnlessFailed wanted result
+not-saved-status name old new _ _ wanted result (save_failed others rose taken) ends = still-fault wanted result ends
+not-saved-status name old new _ _ wanted result (save_memory same faults taken) ends = still-memory wanted result ends
+
+-- no name changes by a load
+pub not-loaded-same : (name : List ℕ) (old new : FilesState) (status : ℕ) (text : List ℕ) → IsNotLoaded name old new status text → new.contents ≡ old.contents
+not-loaded-same name old new _ _ (load_failed same rose) = same
+not-loaded-same name old new _ _ (load_too_long same over faults takes) = same
+not-loaded-same name old new _ _ (load_memory same faults) = same

@@ -51,14 +51,14 @@ pub record IsLoaded (name bytes : List ℕ) (old new : FilesState) : Type 0 wher
   pub faults : new.faults ≡ old.faults
   pub takes : TakesWithin old.taken new.taken
 
--- what is said of a name that gave no bytes, by what the files show before and after
+-- what is printed for a name that gave no bytes, by what the files show before and after
 pub data IsNotLoaded (name : List ℕ) (old new : FilesState) : (status : ℕ) → (text : List ℕ) → Type 0 where
   load_failed : new.contents ≡ old.contents → Rose old.faults new.faults → IsNotLoaded name old new 4 (fault_line name)
   load_too_long : new.contents ≡ old.contents → HoldsOver old.contents name → new.faults ≡ old.faults → TakesOver old.taken new.taken → IsNotLoaded name old new 4 (too_long_line name)
   load_memory : new.contents ≡ old.contents → new.faults ≡ old.faults → IsNotLoaded name old new 6 memory_line
 
--- What there is to say of a name that is loaded, where the bytes alone tell which text with which status. Nothing is
--- saved.
+-- What is printed for a name that is loaded, where the bytes alone decide the text and the status.
+-- Nothing is saved.
 pub data SaysOf (Of : (bytes : List ℕ) → (status : ℕ) → (text : List ℕ) → Type 0) (name : List ℕ) (old new : FilesState) (status : ℕ) (text : List ℕ) : Type 0 where
   loaded : (bytes : List ℕ) → IsLoaded name bytes old new → Of bytes status text → SaysOf Of name old new status text
   not_loaded : IsNotLoaded name old new status text → SaysOf Of name old new status text
@@ -72,7 +72,7 @@ pub record IsSaved (name bytes : List ℕ) (old new : FilesState) : Type 0 where
   pub faults : new.faults ≡ old.faults
   pub taken : new.taken ≡ old.taken
 
--- what is said of bytes that were not saved
+-- what is printed for bytes that were not saved
 pub data IsNotSaved (name : List ℕ) (old new : FilesState) : (status : ℕ) → (text : List ℕ) → Type 0 where
   save_failed : OthersSame old.contents new.contents name → Rose old.faults new.faults → new.taken ≡ old.taken → IsNotSaved name old new 4 (save_line name)
   save_memory : new.contents ≡ old.contents → new.faults ≡ old.faults → new.taken ≡ old.taken → IsNotSaved name old new 6 memory_line

@@ -13,8 +13,9 @@ use Rattle.mq_ends.specs.Parts.{Parts, known, state}
 abbrev pub IsCutOf : Parts → DriveState → Type 0
 IsCutOf p d = AreImages (state p) (map image_of d.queues) (image_of d.root)
 
--- What is found reaches a number from the front to the newest one, by the flushed heads and so by what was known to be
--- done. This number is at or above each acknowledged one, and each block of the map after it has the map's content.
+-- What is found reaches a number from the front to the newest one, by the flushed heads and so by what was
+-- known to be done. This number is at or above each acknowledged one, and each block of the map after it
+-- has the map's content.
 pub record Finds (p : Parts) (reached : ℕ) (found : ℕ → List ℕ) : Type 0 where
   pub least : front_of (state p) ≤ reached
   pub settled : front (known p) ≤ reached

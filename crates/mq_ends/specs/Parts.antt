@@ -1,5 +1,5 @@
--- Where nobody holds anything: what is known of a journal and what lies in its ports, in parts, and the state of the
--- machine that these parts are together.
+-- Where nobody holds anything: what is known of a journal and what lies in its ports, in parts, and the
+-- state of the machine that these parts are together.
 use Rattle.std.specs.Prelude.{◌≡◌, ◌<◌, ◌≤◌, ℕ, zero, suc, ◌+◌, ◌-◌, ◌^◌, min, ◌&&◌, ◌||◌, not, Bool, true, false, List, [], ◌∷◌, length, Option, nat_eq, slice_index_or, if◌then◌else◌}
 use Rattle.mq_blocks.specs.Drive.{PortState}
 use Rattle.mq_blocks.specs.Journal.{is_among}
@@ -41,8 +41,8 @@ known p = record {
   word = p.word;
 }
 
--- What holds of each part by itself: the history, the port of each queue with all entries of this queue, the root's
--- port with its bases. All acknowledged numbers are known to be done.
+-- What holds of each part by itself: the history, the port of each queue with all entries of this queue,
+-- the root's port with its bases. All acknowledged numbers are known to be done.
 pub record AreParts (p : Parts) : Type 0 where
   pub log : LogOk (known p)
   pub many : length p.ports ≡ p.geometry.queues
@@ -66,7 +66,7 @@ abbrev pub least_undone : (Tx → List Tx → Bool) → ℕ → List Tx → ℕ
 least_undone done q [] = unmarked
 least_undone done q (t ∷ ts) = if nat_eq t.queue q && not (done t ts) then min t.number (least_undone done q ts) else least_undone done q ts
 
--- the marks of so many queues from one on
+-- the marks of a number of queues, from one on
 abbrev pub marks_from : (ℕ → ℕ) → ℕ → ℕ → List ℕ
 marks_from mark q zero = []
 marks_from mark q (suc n) = mark q ∷ marks_from mark (q + 1) n

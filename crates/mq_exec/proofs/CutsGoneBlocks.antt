@@ -1,5 +1,5 @@
--- What is looked at before a file is cut: its blocks from that of the first byte that goes on, and the bitmaps
--- of the zones of those that are freed.
+-- What is looked at before a file is cut: its blocks from that of the first byte that goes on, and the
+-- bitmaps of the zones of those that are freed.
 use Rattle.std.proofs.Common.{get_or, ◌≡◌, ◌≢◌, ℕ, zero, suc, ◌+◌, ◌/◌, ◌<◌, ◌≤◌, ◌⊎◌, inl, inr, List, [], ◌∷◌, ◌++◌, length, drop, ◌-◌, Bool, true, false, cond, refl, sym, ap, subst, ◌∙◌, arith}
 use Rattle.std.specs.Prelude.{Some, None, nat_lt, slice_get}
 use Rattle.std.specs.List.{All, Contains}

@@ -64,7 +64,8 @@ resizing-done g q v r i size bytes now h enough = ap (λ (o : RequestOutcome). i
 pub resizing-pointers : (g : Geometry) (q : ℕ) (v : Volume) (r : Request) (i size : ℕ) (bytes now : List ℕ) (b : ℕ) → IsResizing g q v r i size bytes now → longer_needs v i size ≤ free_blocks g v → (node v i).indirect ≡ Some b → LooksAt g q v r b
 resizing-pointers g q v r i size bytes now b h enough e = at_pointers i bytes h.works (resizing-done g q v r i size bytes now h enough) e
 
--- it looks at what is looked at to get a file that is not shorter, if it looks at the blocks of the bytes that are written
+-- it looks at what is looked at to get a file that is not shorter, if it looks at the blocks of the bytes
+-- that are written
 pub resizing-looks : (g : Geometry) (q : ℕ) (v : Volume) (r : Request) (i size at count : ℕ) (bytes now : List ℕ) (b : ℕ) → IsResizing g q v r i size bytes now → length bytes ≤ size
     → ((place : ℕ) → longer_needs v i size ≤ free_blocks g v → at / 4096 ≤ place → place < past_place at count → slice_get (node v i).blocks place ≡ Some b → LooksAt g q v r b) → LooksLonger g q v i size at count b → LooksAt g q v r b
 resizing-looks g q v r i size at count bytes now b h longer parts (short s) =

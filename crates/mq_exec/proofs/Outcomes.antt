@@ -26,8 +26,8 @@ use Rattle.mq_tree.specs.Volume.{Volume}
 use Rattle.mq_tree.specs.declared.request.Reply.{Reply}
 use Rattle.mq_tree.specs.declared.request.Request.{Request}
 
--- So far these are the replies, and the pages carry this volume. The rest leads from it where the whole leads,
--- and looks at no other block.
+-- So far these are the replies, and the pages carry this volume. The rest leads from it where the whole
+-- leads, and looks at no other block.
 pub record IsRunTo (g : Geometry) (q : ℕ) (v : Volume) (start now : Working) (whole rest : List Request) (so_far : List Reply) : Type 0 where
   pub volume : Volume
   pub same : replies g q v whole ≡ so_far ++ replies g q volume rest

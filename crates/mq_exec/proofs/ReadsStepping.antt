@@ -65,7 +65,7 @@ named-sound g q v r sound low fine = elim (cases_Bool (is_named r)) [
 
 -- ---- at what it looks
 
--- what is missing, where the request is told by its kind
+-- what is missing, where the request is given by its kind
 pub lack-of : (w : Working) (q : ℕ) (r s : Request) (result : Result Reply Missing) → r ≡ s → IfErr result (MissingOf w (λ v b. LooksAt w.geometry q v s b)) → IfErr result (MissingOf w (λ v b. LooksAt w.geometry q v r b))
 lack-of w q r s result e h = subst (λ (x : Request). IfErr result (MissingOf w (λ v b. LooksAt w.geometry q v x b))) (sym e) h
 

@@ -27,7 +27,7 @@ use Rattle.mq_tree.proofs.LaidMaps.{zone-low}
 abbrev pub IsBitmapOf : Geometry → List ℕ → ℕ → Type 0
 IsBitmapOf g blocks x = (b : ℕ) × Contains blocks b × (x ≡ zone_bitmap (zone_in g b))
 
--- of the first so many
+-- of the first k blocks
 pub record AreBitmaps (g : Geometry) (blocks bitmaps : List ℕ) (k : ℕ) : Type 0 where
   pub all : All (λ b. Contains bitmaps (zone_bitmap (zone_in g b))) (take k blocks)
   pub only : (x : ℕ) → Contains bitmaps x → IsBitmapOf g blocks x

@@ -27,8 +27,8 @@ pub record Adds (pages : Pages) (looks : ℕ → Type 0) (before after : List �
 abbrev pub AddsOf : Working → (queue : ℕ) → Request → (before after : List ℕ) → Type 0
 AddsOf w q r before after = Adds (pages_of w) (λ b. OfEach w (λ v. Looks w.geometry q v r b)) before after
 
--- A request was gone on from: the pages may be a part of each volume to which it leads, and none is absent that was
--- known.
+-- The step past a request: the pages may be a part of each volume to which it leads, and none is absent
+-- that was known.
 pub record GoesOn (q : ℕ) (r : Request) (old new : Working) : Type 0 where
   pub geometry : new.geometry ≡ old.geometry
   pub known : (b : ℕ) → pages_of new b ≡ None → pages_of old b ≡ None

@@ -17,7 +17,7 @@ use Rattle.mq_tree.specs.Volume.{File, Volume, body, node}
 
 -- ---- at what is looked
 
--- Where a file is cut to so many bytes: a block from that of the first byte that goes on, its block of
+-- Where a file is cut to `size` bytes: a block from that of the first byte that goes on, its block of
 -- pointers, or the bitmap of the zone of a block that is freed.
 pub data LooksCut (g : Geometry) (v : Volume) (i size b : ℕ) : Type 0 where
   part : (place : ℕ) → size / 4096 ≤ place → slice_get (node v i).blocks place ≡ Some b → LooksCut g v i size b

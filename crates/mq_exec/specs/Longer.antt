@@ -9,18 +9,18 @@ use Rattle.mq_tree.specs.Requests.{Makes, Verdict, resized}
 use Rattle.mq_tree.specs.Sound.{blocks_for}
 use Rattle.mq_tree.specs.Volume.{File, Volume, body, node}
 
--- how many blocks a file takes to have so many bytes
+-- how many blocks a file takes to have `size` bytes
 abbrev pub longer_needs : Volume → (i size : ℕ) → ℕ
 longer_needs v i size = needs (length (node v i).blocks) (blocks_for size)
 
--- the file gets other bytes, so many in all
+-- the file gets other bytes, `size` in all
 pub record IsRewriting (g : Geometry) (q : ℕ) (v : Volume) (i size : ℕ) (verdict : Verdict) (rewritten : List ℕ → List ℕ) (bytes : List ℕ) : Type 0 where
   pub is : body v i ≡ File bytes
   pub makes : verdict ≡ Makes (longer_needs v i size) (resized g q v i (rewritten bytes))
   pub length_is : length (rewritten bytes) ≡ size
 
--- The bitmap of a zone before which there are not enough free blocks; and where there are enough its block of
--- pointers, a block that it takes, or one that it has at a byte that is written.
+-- The bitmap of a zone before which there are not enough free blocks; and where there are enough its block
+-- of pointers, a block that it takes, or one that it has at a byte that is written.
 pub data LooksLonger (g : Geometry) (q : ℕ) (v : Volume) (i size at count b : ℕ) : Type 0 where
   short : IsSearched g q v (longer_needs v i size) b → LooksLonger g q v i size at count b
   indirect : (picks : List ℕ) → ArePicked g q v (longer_needs v i size) picks → (node v i).indirect ≡ Some b → LooksLonger g q v i size at count b

@@ -31,8 +31,8 @@ pub record IsDone (g : Geometry) (q : ℕ) (v : Volume) (requests : List Request
   pub rest : KeepsRest g v (after_group g q v requests) done.writes.items done.frees.items
   pub sound : IsSound g (after_group g q v requests)
 
--- Blocks that a group asks for: at least one, each once and by rising block, each a home block that is absent
--- and looked at.
+-- Blocks that a group asks for: at least one, each once and by rising block, each a home block that is
+-- absent and looked at.
 pub record IsRequested (g : Geometry) (pages : Pages) (looks : ℕ → Type 0) (blocks : List ℕ) : Type 0 where
   pub need : IsNeed pages looks blocks
   pub rise : AllPairs (λ b c. b < c) blocks

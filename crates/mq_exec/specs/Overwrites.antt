@@ -10,7 +10,7 @@ use Rattle.mq_pages.specs.declared.page.Kind.TheVariants.{Data}
 abbrev pub AreApart : List ℕ → Type 0
 AreApart blocks = (j k : ℕ) → j < length blocks → k < length blocks → slice_index blocks j ≡ slice_index blocks k → j ≡ k
 
--- the place behind that of the last of so many bytes at an offset
+-- the place behind that of the last of `count` bytes at an offset
 abbrev pub past_place : (at count : ℕ) → ℕ
 past_place at count = if count == 0 then at / 4096 else (at + count + 4095) / 4096
 

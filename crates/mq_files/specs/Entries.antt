@@ -57,8 +57,8 @@ pub record IsAllLogged (e : FileEntry) : Type 0 where
 
 -- ---- what it does
 
--- The group ran on the volume of the map: it was answered as its requests are there, and it writes and frees just
--- what they change.
+-- The group ran on the volume of the map: it was answered as its requests are there, and it writes and
+-- frees just what they change.
 pub record Ran (g : Geometry) (m : Map) (e : FileEntry) : Type 0 where
   pub volume : Volume
   pub laid : IsLaid g m volume
@@ -66,7 +66,8 @@ pub record Ran (g : Geometry) (m : Map) (e : FileEntry) : Type 0 where
   pub answered : e.replies ≡ replies g e.session volume e.requests
   pub moves : Moves g volume (volume_after g volume e) (written_by e) (freed_by e)
 
--- It ran and changed something. Its transaction makes just this change, and the map on which the next volume lies.
+-- It ran and changed something. Its transaction makes just this change, and the map on which the next
+-- volume lies.
 pub record Does (g : Geometry) (m : Map) (e : FileEntry) : Type 0 where
   pub ran : Ran g m e
   pub changes : Changes (written_by e) (freed_by e)

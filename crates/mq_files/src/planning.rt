@@ -43,7 +43,7 @@ pub fn plan_writes(
     Ok(planned)
 }
 
-/// On a desk over the ports of a drive, the cells of the pages that a session holds tell what the history
+/// On a desk over the ports of a drive, the cells of the pages that a session holds give what the history
 /// says of the blocks that a group writes.
 pub fn held_pages_tell_plans<J: JournalValues<Entry = FileEntry>>()
     ensures { PagesTellPlans J.values }

@@ -1,5 +1,5 @@
--- Where each group was answered well and each script ends with `fsync`: each group has its line, the last number was
--- acknowledged, and each doorbell was rung for all commits of its queue.
+-- Where each group was answered well and each script ends with `fsync`: each group has its line, the last
+-- number was acknowledged, and each doorbell was rung for all commits of its queue.
 use Rattle.std.proofs.Common.{◌≡◌, ◌⊎◌, ◌∙◌, inl, inr, ℕ, ◌+◌, ◌-◌, ◌<◌, ◌≤◌, Bool, true, false, List, [], ◌∷◌, ◌++◌, length, refl, sym, ap, subst, arith}
 use Rattle.std.specs.Prelude.{Some, Result, Ok, Err}
 use Rattle.std.specs.List.{AllPairs, Contains}
@@ -74,7 +74,7 @@ record Has (lines : List Line) (answers : List Told) (s k : ℕ) : Type 0 where
   line_of : IsLineOf line s k
   line_number : line.number ≡ number
 
--- the line of the group that was told
+-- the line of the group that was reported
 same-line : (l : Line) (t : Told) (s k : ℕ) → IsLineOf l t.session t.group → IsOf t s k → IsLineOf l s k
 same-line l t s k is of = (is.0 ∙ of.0, is.1 ∙ of.1)
 

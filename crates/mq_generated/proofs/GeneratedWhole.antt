@@ -1,5 +1,5 @@
--- What a run on an empty drive comes to whose groups were all answered well: its history, the image that it leaves, and the
--- tree on that.
+-- What a run on an empty drive comes to whose groups were all answered well: its history, the image that it
+-- leaves, and the tree on that.
 use Rattle.std.proofs.Common.{◌≡◌, ◌∙◌, ℕ, ◌<◌, List, length, sym, ap, subst, arith}
 use Rattle.std.specs.Prelude.{Bool, true, Option, Some, None}
 use Rattle.mq_blocks.specs.Blocks.{block_at, content}

@@ -28,7 +28,8 @@ use Rattle.mq_generated.specs.declared.generated.Generated.{Generated}
 
 -- ---- the drive
 
--- a queue for each thread, journal areas of 1,024 blocks, 18 blocks of metadata more than threads, and zones of 256
+-- a queue for each thread, journal areas of 1,024 blocks, 18 blocks of metadata more than threads, and
+-- zones of 256
 pub record IsShape (threads : ℕ) (g : Geometry) : Type 0 where
   pub queues : queues_of g ≡ threads
   pub area : area_of g ≡ 1024
@@ -37,8 +38,8 @@ pub record IsShape (threads : ℕ) (g : Geometry) : Type 0 where
 
 -- ---- the history
 
--- From the empty file system on, the lines are a legal list of commits and reads of the groups of the scripts, and each
--- group has its line.
+-- From the empty file system on, the lines are a legal list of commits and reads of the groups of the
+-- scripts, and each group has its line.
 pub record IsHistory (g : Geometry) (scripts : List Script) (lines : List Line) : Type 0 where
   pub legal : IsLegal g scripts (empty_volume g) 0 lines
   pub whole : (session group : ℕ) → IsGroup scripts session group → (l : Line) × Contains lines l × IsLineOf l session group
@@ -49,8 +50,8 @@ last_volume g scripts lines = volume_at g scripts (empty_volume g) lines (newest
 
 -- ---- the drive after it
 
--- The image is readable, reaches the last number, and stands for the volume there. The doorbell of each queue is the sum,
--- over all its commits, of the blocks that they write and one more.
+-- The image is readable, reaches the last number, and stands for the volume there. The doorbell of each
+-- queue is the sum, over all its commits, of the blocks that they write and one more.
 pub record HoldsAll (g : Geometry) (scripts : List Script) (lines : List Line) (x : DriveImage) : Type 0 where
   pub geometry_is : x.geometry ≡ g
   pub drive : IsDrive x
@@ -63,8 +64,9 @@ pub record HoldsAll (g : Geometry) (scripts : List Script) (lines : List Line) (
 
 -- ---- the whole
 
--- The workload of this seed was played on an empty file system: what was counted is in the tree after the last number,
--- which tells how many were drawn, and the file, where it is to be kept, is that of an image that holds all of it.
+-- The workload of this seed was played on an empty file system: what was counted is in the tree after the
+-- last number, which gives how many were drawn, and the file, where it is to be kept, is that of an image
+-- that holds all of it.
 pub record IsGenerated (seed threads groups : ℕ) (keeps : Bool) (made : Generated) : Type 0 where
   pub geometry : Geometry
   pub shape : IsShape threads geometry

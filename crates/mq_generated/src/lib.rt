@@ -1,11 +1,13 @@
-//! A run of the generated workload on an empty file system: how much its tree has at the end, and what a cut of the
-//! drive's power leaves there.
+//! The command `gen`: a run of the generated workload on an empty file system, how much its tree has at the
+//! end, and what a cut of the drive's power leaves there.
 #![tactic(auto)]
 
 mod generated;
 mod generating;
 mod playing;
 mod shape;
+mod workload;
 
 pub use generated::Generated;
 pub use generating::generate;
+pub use workload::{Workload, generate_and_save};

@@ -1,7 +1,7 @@
 // A run of scripts on an empty file system, to the end of all sessions.
 ghost use Rattle.std.specs.Prelude.{◌≡◌, ◌≤◌, IfOk, IsTrue, length};
 ghost use Rattle.mq_blocks.specs.Geometry.{queues_of};
-ghost use Rattle.mq_generated.specs.Generated.{AreGood, IsWholeRun, to_the_end};
+ghost use Rattle.mq_generated.specs.Generated.{AreGood, IsWholeRun};
 ghost use Rattle.mq_legal.specs.Answers.{is_good as is_good_answer};
 
 use mq_blocks::{Geometry, OutOfMemory};
@@ -44,8 +44,9 @@ fn are_good(answers: &[Told]) -> bool
     true
 }
 
-/// Runs scripts on the empty file system of a fresh drive, each on a session and a thread of its own, with power for more
-/// events than any run makes and no failing command. A group that is refused is answered as out of memory.
+/// Runs scripts on the empty file system of a fresh drive, each on a session and a thread of its own, with
+/// power for more events than any run makes and no failing command. A group that is refused is answered as
+/// out of memory.
 pub fn play<R: Threads + Wait + Sync, G: Gate + Sync>(
     rt: &R,
     alloc: Global,

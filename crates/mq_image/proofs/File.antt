@@ -155,7 +155,7 @@ namespace-length g queues root =
     let c = all-length g queues in
     omega arith
 
--- the blocks of ports that have so many each
+-- the blocks of ports that have n each
 pub all-sized : (n : ℕ) (queues : List PortImage) → All (λ (p : PortImage). length p.blocks ≡ n) queues → length (all_blocks queues) ≡ length queues * n
 all-sized n [] h = omega arith
 all-sized n (p ∷ ps) h =

@@ -36,7 +36,7 @@ meta_in file = number_at 4 20 file
 abbrev pub zone_in : List ℕ → ℕ
 zone_in file = number_at 4 24 file
 
--- the geometry that the header tells
+-- the geometry that the header gives
 pub record IsGeometryIn (file : List ℕ) (g : Geometry) : Type 0 where
   pub queues : queues_of g ≡ queues_in file
   pub area : area_of g ≡ area_in file
@@ -89,7 +89,7 @@ length_fault g file =
 
 -- ---- the blocks
 
--- So many blocks from an offset on, the first of which has this index: each Lba is at least `low`,
+-- `count` blocks from an offset on, the first of which has this index: each Lba is at least `low`,
 -- which is above the one before, and is in the namespace, and no block is all zeros.
 unfoldable pub record_fault : (size count index low at : ℕ) → List ℕ → Option FileFault
 record_fault size zero index low at file = None

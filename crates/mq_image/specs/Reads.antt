@@ -11,7 +11,7 @@ use Rattle.mq_image.specs.File.{all_blocks, areas, namespace, ring_bytes, zones}
 use Rattle.mq_image.specs.Places.{IsInside, IsSpan, fault_left}
 use Rattle.mq_image.specs.declared.place.Place.{Place}
 
--- so many blocks of the namespace were read
+-- `count` blocks of the namespace were read
 pub record IsPast (file : List ℕ) (old new : Place) (count : ℕ) : Type 0 where
   pub size : new.size ≡ old.size
   pub lba : new.lba ≡ old.lba + count
@@ -32,7 +32,7 @@ pub record IsAreaRead (g : Geometry) (file : List ℕ) (queue : ℕ) (old new : 
   pub span : IsSpan file old new p.blocks
   pub ring : ring_bytes p ≡ window file (40 + 65552 * queue) 65552
 
--- the first so many queues' ports were read
+-- the ports of the first `count` queues were read
 pub record AreAreasRead (g : Geometry) (file : List ℕ) (count : ℕ) (old new : Place) (ports : List PortImage) : Type 0 where
   pub count_is : length ports ≡ count
   pub each : All (λ p. IsAreaPort g p) ports
@@ -51,7 +51,7 @@ pub record IsQueuePort (g : Geometry) (p : PortImage) : Type 0 where
 abbrev pub with_zone : PortImage → List (Option (List ℕ)) → PortImage
 with_zone p zone = record p { blocks = p.blocks ++ zone }
 
--- the zones of the first so many ports were read, and the others have none yet
+-- the zones of the first `count` ports were read, and the others have none yet
 pub record AreZonesRead (g : Geometry) (file : List ℕ) (count : ℕ) (old new : Place) (before ports : List PortImage) : Type 0 where
   pub count_is : length ports ≡ length before
   pub done : (k : ℕ) → k < count → IsQueuePort g (slice_index_or ports k no_image)

@@ -1,5 +1,5 @@
--- Where a fuse has no limit, the power of no port has gone off; and where the failing command was not executed either, no
--- port has a fault, so that the checkpoint at the end was not refused.
+-- Where a fuse has no limit, the power of no port has gone off; and where the failing command was not
+-- executed either, no port has a fault, so that the checkpoint at the end was not refused.
 use Rattle.std.proofs.Common.{◌≡◌, ℕ, zero, suc, ◌<◌, ◌≤◌, ◌++◌, Bool, true, false, List, [], ◌∷◌, length, map, get_or, Option, Some, None, replicate, refl, sym, ap, subst, ◌∙◌, inl, inr, arith}
 use Rattle.std.specs.Prelude.{Contains, Err, slice_index_or}
 use Rattle.std.proofs.lemmas.Bool.{or_parts}

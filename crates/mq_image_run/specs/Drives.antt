@@ -32,7 +32,7 @@ use Rattle.mq_image_run.specs.declared.driving.Driven.{Driven}
 use Rattle.mq_image_run.specs.declared.stopping.Stopped.{Stopped}
 use Rattle.mq_image_run.specs.declared.options.RunOptions.{RunOptions}
 
--- ---- what the ports tell
+-- ---- what the ports show
 
 -- the command that is to fail was executed on one of them
 abbrev pub has_failed : List EmuPort → Bool
@@ -60,9 +60,10 @@ events_on ports = total (λ p. happened_in (emu_state p) (emu_faults p)) ports
 abbrev pub emu_ghosts : Ghosts EmuPort
 emu_ghosts = ghosts
 
--- The scripts were run over these ports and over what stands on them; without a cut the run ended with a checkpoint. The
--- ports that came back are those of the drive still, each with its fuse and its failing command. Then the power of all of
--- them was cut with the pick that was asked for, and their seats came back.
+-- The scripts were run over these ports and over what stands on them; without a cut the run ended with a
+-- checkpoint. The ports that came back are those of the drive still, each with its fuse and its failing
+-- command. Then the power of all of them was cut with the pick that was asked for, and their seats came
+-- back.
 pub record HasDriven (g : Geometry) (ports : Ports EmuPort) (standing : Standing) (scripts : List Script) (o : RunOptions) (d : Driven) (seats : List FuseSeat) : Type 0 where
   pub end : RunEnd EmuPort
   pub ran : HasRunScripts emu_ghosts emu_state emu_faults g ports standing scripts (is_none o.cut) end
@@ -74,10 +75,10 @@ pub record HasDriven (g : Geometry) (ports : Ports EmuPort) (standing : Standing
   pub failed : d.failed ≡ has_failed (row_of end.ports)
   pub cut : AreCutPorts o.pick (row_of end.ports) d.images.items seats
 
--- This was done on the drive that starts from the image, with the power, the failing command and the pick that were asked
--- for, over the volume that stands there: the pick is the seed of what each port left to chance at the start. No port had
--- executed a command then: so the command that was to fail is that of this number, on the port of this number, that was
--- executed since.
+-- This was done on the drive that starts from the image, with the power, the failing command and the pick
+-- that were asked for, over the volume that stands there: the pick is the seed of what each port left to
+-- chance at the start. No port had executed a command then: so the command that was to fail is that of this
+-- number, on the port of this number, that was executed since.
 pub record IsDriven (fuse : FuseName) (y : DriveImage) (scripts : List Script) (o : RunOptions) (d : Driven) (seats : List FuseSeat) : Type 0 where
   pub ports : Ports EmuPort
   pub started : AreStarted fuse o.fail y ports
@@ -88,9 +89,9 @@ pub record IsDriven (fuse : FuseName) (y : DriveImage) (scripts : List Script) (
   pub has : HasDriven y.geometry ports standing scripts o d seats
   pub named : d.failed ≡ was_executed o.fail (row_of has.end.ports)
 
--- What was driven, once the fuse was closed. With a limit, so many events happened on all ports, at most those of the
--- limit, and all of those where a port refused one for its power. Without a limit no port refused one for its power, and
--- where the failing command was not executed either, no port has a fault.
+-- What was driven, once the fuse was closed. With a limit, the events are those that happened on all ports:
+-- at most the limit, and just the limit where a port refused one for its power. Without a limit no port
+-- refused one for its power, and where the failing command was not executed either, no port has a fault.
 pub record HasStopped (fuse : FuseName) (y : DriveImage) (scripts : List Script) (o : RunOptions) (s : Stopped) : Type 0 where
   pub seats : List FuseSeat
   pub drives : IsDriven fuse y scripts o s.driven seats

@@ -29,15 +29,15 @@ IsPowerOff why = why ≡ cause.Off
 abbrev pub StoppedByPower : Option (Result ℕ CheckpointRefusal) → Type 0
 StoppedByPower finished = finished ≡ Some (Err (checkpoint.Drive cause.Off))
 
--- What is told of a checkpoint at the end that the drive refused: its power was on.
+-- What is reported of a checkpoint at the end that the drive refused: its power was on.
 abbrev pub IsStop : Cause → Last → Type 0
 IsStop cause.Off last = ⊥
 IsStop (cause.Failed tx status) last = last ≡ StoppedTx tx
 IsStop (cause.FailedHome block status) last = last ≡ StoppedBlock block
 IsStop (cause.Stopped tx why) last = last ≡ StoppedTx tx
 
--- With a cut the last line tells how many events happened. Else it tells what the checkpoint at the end came to: the
--- number up to which all stands at home, or what stopped it.
+-- With a cut the last line gives how many events happened. Else it reports what the checkpoint at the end
+-- came to: the number up to which all stands at home, or what stopped it.
 abbrev pub IsLast : (cut : Option ℕ) → (events : ℕ) → Option (Result ℕ CheckpointRefusal) → Last → Type 0
 IsLast (Some k) events finished last = last ≡ Cut events
 IsLast None events (Some (Ok n)) last = last ≡ Clean n
@@ -47,9 +47,10 @@ IsLast None events None last = ⊥
 
 -- ---- the whole
 
--- Groups and requests of the scripts can be counted in 32 bits. The image was recovered, whole, and is within the limits of
--- a run. The scripts were run on the drive that started from what this left, and the image is what the cut of its power at
--- the end left; it fits its file. Without a cut, and where the failing command was not executed, the run ended clean.
+-- Groups and requests of the scripts can be counted in 32 bits. The image was recovered, whole, and is
+-- within the limits of a run. The scripts were run on the drive that started from what this left, and the
+-- image is what the cut of its power at the end left; it fits its file. Without a cut, and where the
+-- failing command was not executed, the run ended clean.
 pub record IsRunOf (x : DriveImage) (scripts : List Script) (o : RunOptions) (r : ImageRun) : Type 0 where
   pub short : All (λ script. IsShort script.groups) scripts
   pub recovered : RecoveredImage

@@ -56,8 +56,8 @@ fn any_failed(ports: &Ports<EmuPort<'_>>) -> bool
     ports.root.failed()
 }
 
-// Runs scripts over the ports of a drive and what stands on them, and cuts the power of all ports at the end. The seats of
-// the ports come back.
+// Runs scripts over the ports of a drive and what stands on them, and cuts the power of all ports at the
+// end. The seats of the ports come back.
 fn run_ports<R: Threads + Wait + Sync, G: Gate + Sync>(
     rt: &R,
     alloc: Global,
@@ -99,8 +99,8 @@ fn run_ports<R: Threads + Wait + Sync, G: Gate + Sync>(
     Ok((driven, seats))
 }
 
-/// Runs scripts on the drive that starts from a recovered image, with the power of a fuse, and cuts its power at the
-/// end. The seats of its ports come back.
+/// Runs scripts on the drive that starts from a recovered image, with the power of a fuse, and cuts its
+/// power at the end. The seats of its ports come back.
 pub fn run_drive<R: Threads + Wait + Sync, G: Gate + Sync>(
     rt: &R,
     alloc: Global,

@@ -8,7 +8,7 @@ use mq_checkpoint::CheckpointRefusal;
 use mq_report::Last;
 use mq_side::Cause;
 
-// What is told of a checkpoint at the end that the drive refused while its power was on.
+// What is reported of a checkpoint at the end that the drive refused while its power was on.
 fn stop_of(cause: Cause) -> Last
     requires { IsPowerOff cause → ⊥ }
     ensures { IsStop cause result }

@@ -96,9 +96,10 @@ fn run_countable<R: Threads + Wait + Sync, G: Gate + Sync>(
     })
 }
 
-/// Recovers the drive that starts from an image, and runs scripts over the volume that stands there, each on a session and
-/// a thread of its own. Power and failing command are those of the drive after the recovery. Without a cut the run ends
-/// with a checkpoint. Then the power of the drive is cut, and what that leaves is the new image.
+/// Recovers the drive that starts from an image, and runs scripts over the volume that stands there, each
+/// on a session and a thread of its own. Power and failing command are those of the drive after the
+/// recovery. Without a cut the run ends with a checkpoint. Then the power of the drive is cut, and what
+/// that leaves is the new image.
 pub fn run_image<R: Threads + Wait + Sync, G: Gate + Sync>(
     rt: &R,
     alloc: Global,

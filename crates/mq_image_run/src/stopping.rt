@@ -27,8 +27,8 @@ pub struct Stopped {
     pub events: u64,
 }
 
-/// Runs scripts on the drive that starts from a recovered image, with the power of a fuse, cuts its power at the end, and
-/// closes the fuse.
+/// Runs scripts on the drive that starts from a recovered image, with the power of a fuse, cuts its power
+/// at the end, and closes the fuse.
 pub fn run_to_stop<R: Threads + Wait + Sync, G: Gate + Sync>(
     rt: &R,
     alloc: Global,

@@ -139,7 +139,7 @@ take-all : (xs : List Event) → take (length xs) xs ≡ xs
 take-all [] = refl
 take-all (x ∷ xs) = ap (λ (l : List Event). x ∷ l) (take-all xs)
 
--- a recovery that has made so many of its events
+-- a recovery that has made the first k of its events
 pub record HasMade (x : DriveImage) (d e : DriveState) (ds : List Descriptor) (top : ℕ) (writes : Writes) (k : ℕ) : Type 0 where
   pub read : IsReadPrefix x.geometry (view_over x.geometry d) ds top
   pub home_writes : AreHomeWrites x.geometry d ds writes

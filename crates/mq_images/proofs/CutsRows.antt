@@ -69,7 +69,7 @@ no-errors (PowerOff ∷ fs) all = no-errors fs (λ k d low. all (suc k) d (omega
 no-errors (CommandError tx status ∷ fs) all = absurd (command_error_is_none tx status (all 0 PowerOff (omega arith)))
 no-errors (HomeError lba status ∷ fs) all = absurd (home_error_is_none lba status (all 0 PowerOff (omega arith)))
 
--- the power of the port lasts for so many events, and no command is to fail
+-- the power of the port lasts for l events, and no command is to fail
 pub record IsLimited (l : ℕ) (s : PortState) : Type 0 where
   pub limit : s.fuse.limit ≡ Some l
   pub sound : s.fail ≡ None

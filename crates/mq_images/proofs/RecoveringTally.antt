@@ -124,7 +124,7 @@ module _ (g : Geometry) where
 
   -- ---- events in a row
 
-  -- after the first so many of these events, so many more have happened
+  -- after the first k of these events, k more have happened
   abbrev Counts : DriveState → List Event → Type 0
   Counts d xs = (k : ℕ) → k ≤ length xs → tally_of (after_events g d (take k xs)) ≡ tally_of d + k
 
@@ -266,7 +266,7 @@ start-idle : (fuse : FuseName) (x : DriveImage) → IsDrive x → AreIdle x.geom
 start-idle fuse x drive None zone = refl
 start-idle fuse x drive (Some q) zone = let many = queues-count x drive in ap (λ (s : PortState). s.begun) (start-at x.geometry fuse None 0 (queue_ports x) q (omega (arith, many, zone)))
 
--- after the first so many events of a recovery, so many have happened
+-- after the first k events of a recovery, k have happened
 pub recovery-tally : (fuse : FuseName) (x : DriveImage) (writes : Writes) (top k : ℕ) → IsDrive x → AreRising 0 (homes_of x.geometry) (map (λ w. w.0) writes) → AreBelow (homes_of x.geometry) writes → k ≤ events_of x writes top
     → tally_of (after_events x.geometry (drive_from fuse None x) (take k (recovery_events (drive_from fuse None x) writes top))) ≡ k
 recovery-tally fuse x writes top k drive rising below low =

@@ -34,7 +34,8 @@ starts-push g fuse fail n (j ∷ is) i =
     ap (λ (l : List PortState). port_from g fuse fail (Queue n) j ∷ l) (starts-push g fuse fail (n + 1) is i)
     ∙ ap (λ (k : ℕ). port_from g fuse fail (Queue n) j ∷ (starts_from g fuse fail (n + 1) is ++ port_from g fuse fail (Queue k) i ∷ [])) (let e : n + 1 + length is ≡ n + length (j ∷ is) = omega arith in e)
 
--- The ports of the first so many queues are started; the images and the seats of the others are left, and of the root.
+-- The ports of the first n queues are started; the images and the seats of the others are left, and of the
+-- root.
 pub record AreStartedTo (g : Geometry) (fuse : FuseName) (fail : Option Failing) (all : List PortImage) (n : ℕ) (queues : List EmuPort) (left : List PortImage) (seats : List FuseSeat) : Type 0 where
   pub done : List PortImage
   pub parts : all ≡ done ++ left
@@ -149,7 +150,7 @@ seeded-push g seed n (q ∷ queues) p to one =
     both more zero d low = to.each 0 d (omega arith)
     both more (suc k) d low = subst (λ (j : ℕ). IsSeeded g seed (Queue j) (get_or (queues ++ p ∷ []) k d)) (let e : n + 1 + k ≡ n + suc k = omega arith in e) (more.each k d (omega (arith, low)))
 
--- the ports of the first so many queues are seeded
+-- the ports of the first n queues are seeded
 pub record AreSeededTo (g : Geometry) (seed n : ℕ) (queues : List EmuPort) : Type 0 where
   pub count : length queues ≡ n
   pub from : AreSeededFrom g seed 0 queues

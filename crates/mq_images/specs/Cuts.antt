@@ -30,8 +30,8 @@ use Rattle.mq_recover.specs.Steps.{IsCutShort, HasRecovered}
 use Rattle.mq_recover.specs.declared.plan.Recovered.{Recovered}
 use Rattle.mq_recover.specs.declared.refusal.RecoverRefusal.TheVariants.{Off}
 
--- A cut left this image of the port, and its seat came back. The pick, with what the port leaves to chance, chooses the
--- image among those that a cut may leave.
+-- A cut left this image of the port, and its seat came back. The pick, with what the port leaves to chance,
+-- chooses the image among those that a cut may leave.
 pub record IsCutPort (pick : ℕ) (p : EmuPort) (i : PortImage) (s : FuseSeat) : Type 0 where
   pub image : IsImage (emu_state p) i
   pub chosen : i ≡ cut_of (emu_state p) (chance_of p) pick
@@ -68,8 +68,8 @@ pub record AreSound (g : Geometry) (ports : Ports EmuPort) : Type 0 where
   pub none : (q : ℕ) → q < queues_of g → (port_at (drive_of emu_state ports).queues q).fail ≡ None
   pub root_none : (emu_state ports.root).fail ≡ None
 
--- A recovery through ports without faults is done, with no fault; or it was cut by the power of one port, and what it
--- was to find was looked up before.
+-- A recovery through ports without faults is done, with no fault; or it was cut by the power of one port,
+-- and what it was to find was looked up before.
 abbrev pub HasRun : Geometry → (old new : DriveState) → (before after : DriveFaults) → Recovered → (whole : Bool) → Type 0
 HasRun g old new before after found true = HasRecovered g old found.prefix found.base new × (after ≡ before)
 HasRun g old new before after found false =
@@ -79,12 +79,12 @@ HasRun g old new before after found false =
 abbrev pub with_ports : DriveImage → List PortImage → DriveImage
 with_ports x images = record { geometry = x.geometry; ports = images }
 
--- the seats drew so many tickets below the limit
+-- how many tickets below the limit the seats drew
 abbrev pub happened_at : ℕ → List FuseSeat → ℕ
 happened_at l seats = total (λ s. below l (tickets_of s)) seats
 
--- How a recovery of so many events ended: whole, where all of them happened; or the power of one port went off, and
--- fewer happened.
+-- How a recovery of `events` events ended: whole, where all of them happened; or the power of one port went
+-- off, and fewer happened.
 abbrev pub EndsBy : (x : DriveImage) → (ds : List Descriptor) → (top events : ℕ) → (limit : Option ℕ) → (whole : Bool) → (y : DriveImage) → List FuseSeat → Type 0
 EndsBy x ds top events limit true y seats = ((l : ℕ) → limit ≡ Some l → happened_at l seats ≡ events) × IsAllHome x ds top y
 EndsBy x ds top events limit false y seats =
@@ -104,9 +104,9 @@ pub record IsLeftBy (x : DriveImage) (fuse : FuseName) (found : Recovered) (whol
   pub count : length seats ≡ queues_of x.geometry + 1
   pub ends : EndsBy x ds top (events_of x writes top) fuse.limit whole (with_ports x images) seats
 
--- Whence the images came that a recovery left: the drive started from the image, with this pick as the seed of what its
--- ports left to chance; it was recovered, whole or until its power went off; and cuts with the same pick left these images
--- of its ports. No clause states what the recovery left to chance.
+-- Whence the images came that a recovery left: the drive started from the image, with this pick as the seed
+-- of what its ports left to chance; it was recovered, whole or until its power went off; and cuts with the
+-- same pick left these images of its ports. No clause states what the recovery left to chance.
 pub record IsPicked (x : DriveImage) (pick : ℕ) (fuse : FuseName) (found : Recovered) (whole : Bool) (images : List PortImage) (seats : List FuseSeat) : Type 0 where
   pub old : Ports EmuPort
   pub started : AreStarted fuse None x old

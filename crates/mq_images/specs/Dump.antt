@@ -1,4 +1,4 @@
--- The text that tells the words and the chains of an image.
+-- The text that gives the words and the chains of an image.
 use Rattle.std.specs.Prelude.{◌≡◌, ℕ, zero, suc, List, [], ◌++◌, length, codes}
 use Rattle.std.specs.Fmt.{decimal}
 use Rattle.std.specs.List.{flat_map}
@@ -29,7 +29,7 @@ descriptor_line d = transaction_line d.number d.place (length d.logged) (length 
 abbrev pub queue_text : Shown → (chains : ℕ → List Descriptor) → ℕ → List ℕ
 queue_text i chains q = queue_line q (i.doorbell q) (i.head q) ++ flat_map descriptor_line (chains q)
 
--- those of the first so many queues
+-- those of the first queues, of this number
 unfoldable pub queues_text : Shown → (chains : ℕ → List Descriptor) → ℕ → List ℕ
 queues_text i chains zero = []
 queues_text i chains (suc q) = queues_text i chains q ++ queue_text i chains q
@@ -37,7 +37,7 @@ queues_text i chains (suc q) = queues_text i chains q ++ queue_text i chains q
 abbrev pub dump_text : Geometry → Shown → (chains : ℕ → List Descriptor) → (prefix : ℕ) → List ℕ
 dump_text g i chains prefix = base_line i.base ++ (queues_text i chains (queues_of g) ++ prefix_line prefix)
 
--- what is shown is readable, and this text tells its words, its chains and how many transactions stand
+-- what is shown is readable, and this text gives its words, its chains and how many transactions stand
 pub record IsDumpOf (g : Geometry) (i : Shown) (text : List ℕ) : Type 0 where
   pub chains : ℕ → List Descriptor
   pub ds : List Descriptor

@@ -58,8 +58,8 @@ RecoveredDrivesHaveTheDoorbells =
 
 -- ---- what stands
 
--- each home block that stands on the ports is what stood on the image before the recovery, by the descriptors that
--- the recovery read
+-- each home block that stands on the ports is what stood on the image before the recovery, by the
+-- descriptors that the recovery read
 abbrev pub RecoveredDrivesHoldTheBlocks : Type 0
 RecoveredDrivesHoldTheBlocks =
     (x : DriveImage) (r : RecoveredImage) (fuse : FuseName) (fail : Option Failing) (p : Ports EmuPort) (s : Standing)

@@ -17,9 +17,9 @@ use Rattle.mq_recover.specs.RecoverHomes.{written}
 
 -- ---- what there is to recover
 
--- The image is readable: these are the descriptors of its prefix, newest first, and this is the greatest number that
--- it shows. Each home block that has a copy left is to be written home, in rising order, with its newest copy that no
--- later transaction revokes.
+-- The image is readable: these are the descriptors of its prefix, newest first, and this is the greatest
+-- number that it shows. Each home block that has a copy left is to be written home, in rising order, with
+-- its newest copy that no later transaction revokes.
 pub record IsToRecover (x : DriveImage) (ds : List Descriptor) (top : ℕ) (writes : Writes) : Type 0 where
   pub read : Reads x ds top
   pub rising : AreRising 0 (homes_of x.geometry) (map (λ w. w.0) writes)
@@ -34,23 +34,25 @@ abbrev pub events_of_heads : List PortImage → ℕ
 events_of_heads [] = 0
 events_of_heads (p ∷ ps) = word_events p.head p.doorbell + events_of_heads ps
 
--- How many events a whole recovery of the image makes: the begin and the end of each home write, and the store and the
--- flush of the base and of each head, where they change.
+-- How many events a whole recovery of the image makes: the begin and the end of each home write, and the
+-- store and the flush of the base and of each head, where they change.
 abbrev pub events_of : DriveImage → Writes → (top : ℕ) → ℕ
 events_of x writes top = 2 * length writes + (word_events (view_of x).base top + events_of_heads (queue_ports x))
 
 -- ---- what is left
 
--- After a whole recovery the home blocks hold what stood by these descriptors, the base is the greatest number that
--- was shown, and each head is at its doorbell, which is where it was. Over this base nothing is left to bring home.
+-- After a whole recovery the home blocks hold what stood by these descriptors, the base is the greatest
+-- number that was shown, and each head is at its doorbell, which is where it was. Over this base nothing is
+-- left to bring home.
 pub record IsAllHome (x : DriveImage) (ds : List Descriptor) (top : ℕ) (y : DriveImage) : Type 0 where
   pub homes : (b : ℕ) → b < homes_of x.geometry → (view_of y).home b ≡ stands x.geometry (view_of x) ds b
   pub base : (view_of y).base ≡ top
   pub heads : (q : ℕ) → q < queues_of x.geometry → (view_of y).head q ≡ (view_of x).doorbell q
   pub again : Reads y [] top
 
--- After a recovery that was cut the image is readable, shows the same greatest number, and stands for what stood by
--- these descriptors: by the same ones over the old base, or at home alone over the greatest number.
+-- After a recovery that was cut the image is readable, shows the same greatest number, and stands for what
+-- stood by these descriptors: by the same ones over the old base, or at home alone over the greatest
+-- number.
 pub record IsStillStanding (x : DriveImage) (ds : List Descriptor) (top : ℕ) (y : DriveImage) : Type 0 where
   pub left : List Descriptor
   pub read : Reads y left top

@@ -1,4 +1,4 @@
--- How the reason why no volume stands on an image is told.
+-- How the reason why no volume stands on an image is reported.
 use Rattle.mq_images.specs.declared.refusal.StandingRefusal.{StandingRefusal}
 use Rattle.mq_images.specs.declared.refusal.StandingRefusal.TheVariants as standing
 use Rattle.mq_recover.specs.declared.refusal.ImageFault.{ImageFault}

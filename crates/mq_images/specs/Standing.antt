@@ -16,8 +16,8 @@ use Rattle.mq_tree.specs.Corrupt.{IsCorrupt}
 use Rattle.mq_tree.specs.Laid.{IsLaid, map_of}
 use Rattle.mq_tree.specs.Volume.{Volume}
 
--- the image is readable: these are the descriptors of its prefix, newest first, and this is the greatest number that
--- it shows
+-- the image is readable: these are the descriptors of its prefix, newest first, and this is the greatest
+-- number that it shows
 abbrev pub Reads : DriveImage → List Descriptor → ℕ → Type 0
 Reads x ds top = IsReadPrefix x.geometry (view_of x) ds top
 
@@ -42,8 +42,8 @@ pub record StandsFor (x : DriveImage) (v : Volume) : Type 0 where
   pub standing : AreStanding x ds stored
   pub laid : IsLaid x.geometry (map_of x.geometry stored) v
 
--- The image is not readable, and this is the first cause in the order of the tests. It does not depend on the power of
--- the drive that starts from the image.
+-- The image is not readable, and this is the first cause in the order of the tests. It does not depend on
+-- the power of the drive that starts from the image.
 pub record RefusesDrive (x : DriveImage) (e : ImageFault) : Type 0 where
   pub fuse : FuseName
   pub refuses : RefusesImage x.geometry (drive_from fuse None x) e

@@ -19,7 +19,7 @@ use Rattle.mq_recover.specs.Drives.{drive_of}
 abbrev pub IsFreshSeat : FuseName → FuseSeat → Type 0
 IsFreshSeat fuse s = (fuse_of s ≡ fuse) × (tickets_of s ≡ [])
 
--- so many of them
+-- `count` of them
 pub record AreFreshSeats (fuse : FuseName) (count : ℕ) (seats : List FuseSeat) : Type 0 where
   pub count_is : length seats ≡ count
   pub each : All (IsFreshSeat fuse) seats

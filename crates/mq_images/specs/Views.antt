@@ -15,7 +15,8 @@ use Rattle.mq_recover.specs.Drives.{DriveState, drive}
 abbrev pub view_of : DriveImage → Shown
 view_of x = shown says x.geometry (queue_ports x) (root_port x)
 
--- the home blocks by rising number: the metadata region is the root's, and each zone is behind a queue's journal area
+-- the home blocks by rising number: the metadata region is the root's, and each zone is behind a queue's
+-- journal area
 abbrev pub home_blocks : DriveImage → List (Option (List ℕ))
 home_blocks x = (root_port x).blocks ++ zones x.geometry (queue_ports x)
 

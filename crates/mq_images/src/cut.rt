@@ -6,11 +6,12 @@ use mq_blocks::OutOfMemory;
 use mq_drive::{EmuPort, FuseSeat, PortImage, Ports};
 use std::alloc::Global;
 
-/// What a cut of the power leaves of a drive: one image and one seat for each port, the queues' in order and then the
-/// root's.
+/// What a cut of the power leaves of a drive: one image and one seat for each port, the queues' in order
+/// and then the root's.
 #[derive(Drop)]
 pub struct CutDrive {
-    /// What was certain on each port, and what was chosen of the rest: with a geometry, the image of a drive.
+    /// What was certain on each port, and what was chosen of the rest: with a geometry, the image of a
+    /// drive.
     pub images: Vec<PortImage>,
     /// The seats of the ports, with one ticket for each event that a port tried to make. `Fuse::close`
     /// needs them.
@@ -24,8 +25,8 @@ fn cut_port(port: EmuPort<'_>, pick: u64) -> (PortImage, FuseSeat)
     port.cut(pick)
 }
 
-/// Cuts the power of all ports of a drive, the queues' in order and then the root's. What each cut leaves of what is
-/// uncertain follows from `pick` and the port's number.
+/// Cuts the power of all ports of a drive, the queues' in order and then the root's. What each cut leaves
+/// of what is uncertain follows from `pick` and the port's number.
 pub fn cut_ports(
     alloc: Global,
     ports: Ports<EmuPort<'_>>,

@@ -17,8 +17,8 @@ use mq_nvme::Entry;
 use std::alloc::Global;
 
 /// The image of a fresh drive that holds the empty file system. Only three of its blocks are there: the
-/// superblock, the bitmap of the inodes and the first block of their table. All others are absent, and read as
-/// zeros.
+/// superblock, the bitmap of the inodes and the first block of their table. All others are absent, and read
+/// as zeros.
 pub fn format_drive(alloc: Global, geometry: Geometry) -> Result<DriveImage, OutOfMemory>
     ensures is { IfOk result (IsEmptyDrive geometry) }
 {
@@ -68,7 +68,7 @@ fn blank_slots(alloc: Global) -> Result<Vec<Entry>, OutOfMemory>
     Ok(vec![in alloc; Entry::zeroed(); RING_DEPTH as usize]?)
 }
 
-// So many blocks of zeros.
+// This number of blocks of zeros.
 fn absent_blocks(alloc: Global, count: u32) -> Result<Vec<Option<Block>>, OutOfMemory>
     ensures { IfOk result (λ v. (length v.items ≡ count) × ((k : ℕ) → slice_index_or v.items k None ≡ None)) }
 {

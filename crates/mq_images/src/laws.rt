@@ -14,7 +14,8 @@ pub fn a_recovered_image_starts()
     ensures doorbells { RecoveredDrivesHaveTheDoorbells }
 {}
 
-/// What stands on these ports is what stood on the image before the recovery, at home alone: its blocks and its volume.
+/// What stands on these ports is what stood on the image before the recovery, at home alone: its blocks and
+/// its volume.
 pub fn a_recovered_image_holds_what_stood()
     ensures blocks { RecoveredDrivesHoldTheBlocks }
     ensures prefix { RecoveredDrivesHaveNoPrefix }

@@ -1,5 +1,5 @@
-//! What is done on the image of a drive in memory: the empty file system, the volume that stands, the chains,
-//! recovery, and the drive that starts from it and ends with a cut of its power.
+//! What is done on the image of a drive in memory: the empty file system, the volume that stands, the
+//! chains, recovery, and the drive that starts from it and ends with a cut of its power.
 #![tactic(auto)]
 
 mod cut;

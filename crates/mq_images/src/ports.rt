@@ -49,8 +49,8 @@ pub fn drive_power(
 }
 
 /// The ports of a drive that starts from an image, with the power of a fuse and with a seat of it for each
-/// port, the root's last. The command `fail` of the port that it names, if one is given, has to fail. `seed`
-/// and a port's number choose the order in which posted commands are executed.
+/// port, the root's last. The command `fail` of the port that it names, if one is given, has to fail.
+/// `seed` and a port's number choose the order in which posted commands are executed.
 pub fn start_ports<'f>(
     alloc: Global,
     fuse: &'f Fuse,

@@ -27,7 +27,8 @@ use std::alloc::Global;
 pub struct RecoveredImage {
     /// The drive after the recovery, or what a cut of its power left.
     pub image: DriveImage,
-    /// The number of transactions that stood above the old base, and the greatest number that the image showed.
+    /// The number of transactions that stood above the old base, and the greatest number that the image
+    /// showed.
     pub found: Recovered,
     /// The number of events after which the recovery was cut, if it was.
     pub cut: Option<u64>,
@@ -53,8 +54,8 @@ fn check_power(refusal: RecoverRefusal) -> Result<(), ImageFault>
     }
 }
 
-// Recovers a drive whose power may go off. What there is to find is looked up before, since a recovery that was cut
-// does not tell it.
+// Recovers a drive whose power may go off. What there is to find is looked up before, since a recovery that
+// was cut does not report it.
 fn recover_ports(
     alloc: Global,
     geometry: Geometry,
@@ -83,8 +84,8 @@ fn recover_ports(
     }
 }
 
-// Recovers the drive that starts from an image with the power of a fuse, until the power goes off or to the end, and
-// cuts the power of all its ports then.
+// Recovers the drive that starts from an image with the power of a fuse, until the power goes off or to the
+// end, and cuts the power of all its ports then.
 fn recover_until(
     alloc: Global,
     fuse: &Fuse,

@@ -12,8 +12,8 @@ use mq_image::DriveImage;
 use mq_tree::{Tree, mount};
 use std::alloc::Global;
 
-/// The tree of the volume that stands on an image, as a recovery would leave it. The image is tested first, and then the
-/// blocks that stand.
+/// The tree of the volume that stands on an image, as a recovery would leave it. The image is tested first,
+/// and then the blocks that stand.
 pub fn read_volume(alloc: Global, image: DriveImage) -> Result<Tree, StandingRefusal>
     requires { IsDrive image }
     ensures ok { IfOk result (λ t. (v : Volume) × StandsFor image v × IsAlike t v) }

@@ -38,7 +38,7 @@ same-bool true y f h = sym (f refl)
 same-bool false true f h = h refl
 same-bool false false f h = refl
 
--- an inode whose node is the same uses the same blocks alike
+-- an inode whose node is the same uses the same blocks in the same way
 pub use-along : (v w : Volume) (u : Use) (b : ℕ) → node w (owner u) ≡ node v (owner u) → block_in v u ≡ Some b → block_in w u ≡ Some b
 use-along v w (Part i k) b e h = ap (λ (n : Node). slice_get n.blocks k) e ∙ h
 use-along v w (Pointers i) b e h = ap (λ (n : Node). n.indirect) e ∙ h

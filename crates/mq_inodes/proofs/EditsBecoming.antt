@@ -52,8 +52,8 @@ becomes-then g v u w old mid new over s t = record {
   kinds = λ fit. t.kinds (s.kinds fit);
 }
 
--- A step of the pages, of which each listed block was known: the blocks of the zones that are listed were put
--- with the kinds of their uses.
+-- A step of the pages, of which each listed block was known: the blocks of the zones that are listed were
+-- put with the kinds of their uses.
 pub becomes-fitted : (g : Geometry) (v w : Volume) (old new : Working) (blocks : List ℕ) → Carries g (pages_of old) v → AreUses g w → length w ≡ length v → Stepped g v w (pages_of new) blocks → ((b : ℕ) → is_among b blocks ≡ true → pages_of old b ≢ None)
     → ((b : ℕ) → meta_of g ≤ b → is_among b blocks ≡ false → kinds_of new b ≡ kinds_of old b)
     → (KindsFit g (kinds_of old) v → (b : ℕ) (kind : Kind) → meta_of g ≤ b → is_among b blocks ≡ true → kinds_of new b ≡ Some kind → (kind ≡ Data) ↔ IsOfFile w b)

@@ -63,7 +63,7 @@ got-block g v o b m not =
 
 -- ---- the rest of the growth
 
--- so many blocks more, where the block of pointers may be there right before the thirteenth
+-- `left` blocks more, where the block of pointers may be there right before the thirteenth
 abbrev finish : Geometry → (queue : ℕ) → Volume → ℕ → (left : ℕ) → Volume
 finish g q v i zero = v
 finish g q v i (suc left) = if nat_eq (length (node v i).blocks) 12 && is_some (node v i).indirect then grown g q (one_more g q v i) i left else grown g q v i (suc left)
@@ -113,7 +113,7 @@ rest-block g q v i b left low far near first =
 abbrev extra : ℕ → ℕ
 extra total = if nat_lt 12 total then 1 else 0
 
--- so many picks are for so many blocks more, and for a block of pointers that is not there yet
+-- the picks are for `left` blocks more, and for a block of pointers that is not there yet
 record IsPlanned (n : Node) (left picks : ℕ) : Type 0 where
   few : length n.blocks + left ≤ 1036
   none : n.indirect ≡ None → (length n.blocks ≤ 12) × (picks ≡ left + extra (length n.blocks + left))
@@ -191,7 +191,7 @@ plan-end n left p = at n.indirect refl
         let h = p.some (λ f. (let g : Some b ≡ None = sym e ∙ f in absurd (cc))) in
         (omega arith, sym (lt-ltb 12 (length n.blocks) (omega arith)))
 
--- ---- in the midst
+-- ---- some of the picks are taken
 
 -- The pages carry a volume in which an inode has some of the picks, and the others are picked there.
 pub record IsOnWay (g : Geometry) (q : ℕ) (v : Volume) (count i : ℕ) (old now : Working) (o : Opened) (rest : List ℕ) : Type 0 where
@@ -364,7 +364,7 @@ way-end g q v count old now before o w =
       opened = subst (λ (x : Volume). IsOpened g x o) is opened;
     }
 
--- ---- pages in the midst
+-- ---- the pages with some of the picks taken
 
 -- the other picks may be taken, and what is written with them is held
 pub record AreReady (g : Geometry) (now : Working) (o : Opened) (rest : List ℕ) : Type 0 where

@@ -9,7 +9,7 @@ use Rattle.mq_inodes.specs.Changes.{IsPut}
 use Rattle.mq_inodes.specs.Pages.{Pages}
 use Rattle.mq_inodes.specs.Unseen.{AreNoted}
 
--- the first of them, so many
+-- the first k of them are noted
 pub record IsNoting (old new : Pages) (blocks : List ℕ) (k : ℕ) : Type 0 where
   pub free : All (λ b. new b ≡ Some None) (take k blocks)
   pub each : (b : ℕ) → (new b ≡ old b) ⊎ (Contains blocks b × (new b ≡ Some None))

@@ -1,4 +1,5 @@
--- The blocks that are picked, one after another: each is the first that is free once those before it are taken.
+-- The blocks that are picked, one after another: each is the first that is free once those before it are
+-- taken.
 use Rattle.std.proofs.Common.{◌≡◌, ◌≢◌, ℕ, zero, suc, ◌<◌, ◌≤◌, inl, inr, List, [], ◌∷◌, length, take, Bool, true, false, cond, refl, sym, ap, subst, ◌∙◌, arith}
 use Rattle.std.specs.Prelude.{Option, Some, None, ◌||◌, if◌then◌else◌, nat_eq}
 use Rattle.std.specs.List.{All}

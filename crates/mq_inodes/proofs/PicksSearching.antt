@@ -1,4 +1,4 @@
--- Free blocks that are picked zone by zone, up to so many.
+-- Free blocks that are picked zone by zone, up to a given number.
 use Rattle.std.proofs.Common.{get_or, ◌≡◌, ℕ, zero, suc, ◌+◌, ◌-◌, ◌*◌, ◌<◌, ◌≤◌, inl, inr, List, [], ◌∷◌, ◌++◌, length, take, Bool, true, false, cond, refl, sym, ap, subst, ◌∙◌, arith, append_assoc}
 use Rattle.std.specs.List.{All, range_with_len}
 use Rattle.std.proofs.Math.Nat.{mul-le-mul_right}
@@ -17,7 +17,7 @@ use Rattle.mq_tree.specs.Laid.{zone_block}
 use Rattle.mq_tree.specs.Volume.{Volume, is_taken}
 use Rattle.mq_tree.proofs.Free.{range-split}
 
--- ---- the first so many of a list
+-- ---- the first items of a list, up to a given number
 
 -- where they are fewer they are all
 pub take-few : (n : ℕ) (xs : List ℕ) → length (take n xs) < n → take n xs ≡ xs
@@ -71,7 +71,7 @@ free-append v (x ∷ xs) ys =
 free-next : (v : Volume) (a k : ℕ) → free_of v (range_with_len a (k + 1)) ≡ free_of v (range_with_len a k) ++ cond (is_taken v (a + k)) [] ((a + k) ∷ [])
 free-next v a k = ap (free_of v) (range-push a k) ∙ free-append v (range_with_len a k) ((a + k) ∷ [])
 
--- the picks of the blocks before, and of so many of a range
+-- the picks of the blocks before, and of k blocks from a on
 abbrev pub picked : Volume → (count : ℕ) → List ℕ → (a k : ℕ) → List ℕ
 picked v n old a k = take n (old ++ free_of v (range_with_len a k))
 

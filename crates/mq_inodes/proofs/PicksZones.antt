@@ -18,7 +18,7 @@ use Rattle.mq_tree.proofs.Free.{count-order, range-split}
 
 -- ---- the blocks of zones
 
--- the queue's own zone, so many zones from the first on, and so many from that behind the queue's on
+-- the queue's own zone, a zones from the first on, and b from that behind the queue's on
 abbrev parts : Geometry → (q lower higher : ℕ) → List ℕ
 parts g q a b = zone_blocks g q ++ range_with_len (meta_of g) (a * zone_size g) ++ range_with_len (zone_block g (suc q) 0) (b * zone_size g)
 

@@ -34,7 +34,7 @@ pub record IsPut (old new : Pages) (b : ℕ) (page : Option (List ℕ)) : Type 0
 abbrev pub AreOthers : (v w : Volume) → ℕ → Type 0
 AreOthers v w i = (x : ℕ) → x ≢ i → node w x ≡ node v x
 
--- The volumes show the same pages at a block, and have none there alike.
+-- The volumes show the same pages at a block, or both have none there.
 pub record SameAt (g : Geometry) (v w : Volume) (b : ℕ) : Type 0 where
   pub shows : (page : List ℕ) → ShowsPage g v b page ↔ ShowsPage g w b page
   pub vacant : IsVacant g v b ↔ IsVacant g w b

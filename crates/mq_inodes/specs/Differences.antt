@@ -1,4 +1,4 @@
--- What is told apart where pages that were put are compared with those of a view.
+-- What differs where pages that were put are compared with those of a view.
 use Rattle.std.specs.Prelude.{◌≡◌, ◌≢◌, ◌<◌, ◌≤◌, ℕ, Bool, true, false, List, Option, Some, None}
 use Rattle.std.specs.List.{AllPairs, Contains}
 use Rattle.std.specs.Str.{bytes_eq}

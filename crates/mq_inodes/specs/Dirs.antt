@@ -21,7 +21,7 @@ abbrev pub earlier : Option ℕ → Option ℕ → Option ℕ
 earlier None other = other
 earlier (Some at) other = Some at
 
--- a slot behind so many
+-- the number of a slot that stands behind `first` others
 abbrev pub later : (first : ℕ) → Option ℕ → Option ℕ
 later first None = None
 later first (Some at) = Some (first + at)

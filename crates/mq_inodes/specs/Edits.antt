@@ -53,7 +53,7 @@ pub record IsLifted (old new : Working) (b : ℕ) : Type 0 where
 
 -- ---- volumes
 
--- The pages carry the volume, perhaps in the midst of a request: it need not be sound.
+-- The pages carry the volume, perhaps in the middle of a request: it need not be sound.
 pub record Carries (g : Geometry) (pages : Pages) (v : Volume) : Type 0 where
   pub uses : AreUses g v
   pub count : length v ≡ inodes_of g

@@ -28,7 +28,7 @@ HoldsIndirect pages inode = inode.indirect ≢ 0 → IsHeld pages inode.indirect
 
 -- ---- inodes
 
--- with one block more behind so many
+-- with one block more behind `count`
 abbrev pub longer_inode : Inode → (count b : ℕ) → Inode
 longer_inode i count b = record {
   kind = i.kind;
@@ -48,8 +48,8 @@ kind_in i = if nat_eq i.kind 2 then Meta else Data
 abbrev pub with_one : Volume → ℕ → (b : ℕ) → Volume
 with_one v i b = if nat_eq (length (node v i).blocks) 12 && is_none (node v i).indirect then with_pointers v i (Some b) else with_block v i (Some b)
 
--- The inode of a file or directory may get this free block. Its block of pointers may be there right before the
--- thirteenth block.
+-- The inode of a file or directory may get this free block. Its block of pointers may be there right before
+-- the thirteenth block.
 pub record MayGet (g : Geometry) (v : Volume) (o : Opened) (b : ℕ) : Type 0 where
   pub low : o.number < inodes_of g
   pub inode : o.inode ≡ inode_of (node v o.number)

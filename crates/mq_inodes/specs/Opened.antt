@@ -39,7 +39,7 @@ pub record IsTakeable (g : Geometry) (pages : Pages) (b : ℕ) : Type 0 where
 abbrev pub HoldsPointers : Pages → Opened → Type 0
 HoldsPointers pages o = 12 < length o.blocks.items → IsHeld pages o.inode.indirect
 
--- the inode of a file or directory may get so many blocks more
+-- the inode of a file or directory may get `count` blocks more
 pub record MayGrow (g : Geometry) (q : ℕ) (v : Volume) (o : Opened) (picks : List ℕ) (count : ℕ) : Type 0 where
   pub opened : IsOpened g v o
   pub queue : q < queues_of g
@@ -82,7 +82,7 @@ pub record IsReleasable (g : Geometry) (pages : Pages) (b : ℕ) : Type 0 where
   pub marks : IsMarkable g pages b
   pub known : pages b ≢ None
 
--- A file may be cut to so many blocks, with these bytes in place of its own.
+-- A file may be cut to `count` blocks, with these bytes in place of its own.
 pub record MayCut (g : Geometry) (v : Volume) (o : Opened) (count : ℕ) (bytes now : List ℕ) : Type 0 where
   pub opened : IsOpened g v o
   pub is : body v o.number ≡ File bytes

@@ -14,12 +14,12 @@ abbrev pub free_of : Volume → List ℕ → List ℕ
 free_of v [] = []
 free_of v (b ∷ bs) = if is_taken v b then free_of v bs else b ∷ free_of v bs
 
--- the first so many that a session of this queue finds free
+-- the first `count` blocks that a session of this queue finds free
 pub record ArePicked (g : Geometry) (q : ℕ) (v : Volume) (count : ℕ) (picks : List ℕ) : Type 0 where
   pub enough : length picks ≡ count
   pub first : picks ≡ take count (free_of v (order g q))
 
--- the bitmap of a zone before which there are not so many
+-- the bitmap of a zone before which fewer than `count` blocks are free
 pub record IsSearched (g : Geometry) (q : ℕ) (v : Volume) (count b : ℕ) : Type 0 where
   pub zone : ℕ
   pub inside : zone < queues_of g

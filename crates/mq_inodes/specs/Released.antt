@@ -40,7 +40,7 @@ pub record Releases (old new : Working) (blocks : List ℕ) : Type 0 where
 abbrev pub gone_from : Opened → (count : ℕ) → List ℕ
 gone_from o count = drop count o.blocks.items ++ (if nat_lt 12 count then [] else (if nat_lt 12 (length o.blocks.items) then o.inode.indirect ∷ [] else []))
 
--- The pointers past so many blocks were cleared, where there are more than twelve and a file had more.
+-- The pointers past `count` blocks were cleared, where there are more than twelve and a file had more.
 pub record CutsPointers (old new : Working) (p have count : ℕ) : Type 0 where
   pub over : IsOver old new
   pub cut : 12 < count → count < have → IsPointersCut (pages_of old) (pages_of new) p count
@@ -48,7 +48,7 @@ pub record CutsPointers (old new : Working) (p have count : ℕ) : Type 0 where
   pub others : (x : ℕ) → (12 < count → count < have → x ≢ p) → pages_of new x ≡ pages_of old x
   pub kinds : (x : ℕ) → (12 < count → count < have → x ≢ p) → kinds_of new x ≡ kinds_of old x
 
--- an inode with so many blocks
+-- an inode that was cut to `count` blocks
 pub record IsCutInode (old new : Inode) (count size : ℕ) : Type 0 where
   pub kind : new.kind ≡ old.kind
   pub links : new.links ≡ old.links

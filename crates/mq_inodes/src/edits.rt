@@ -116,7 +116,7 @@ impl<'a> Working<'a> {
         ensures put { OnOk result (IsPointerPut (pages_of self.old) (pages_of self.new) p at b) }
     {
         let mut pointers = self.lift(alloc, p)?;
-        set_pointer(&mut pointers, at, b.0);
+        set_pointer(pointers.bytes_mut(), at, b.0);
         self.put(p, Kind::Meta, pointers)
     }
 

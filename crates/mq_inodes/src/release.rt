@@ -13,14 +13,10 @@ ghost use Rattle.mq_tree.specs.Volume.{Volume};
 use crate::blocks::DIRECT;
 use crate::opened::Opened;
 use crate::working::Working;
-use mq_blocks::bytes::put;
 use mq_blocks::{Block, BlockNo, OutOfMemory};
-use mq_layout::Inode;
+use mq_layout::{Inode, POINTERS_PER_BLOCK, set_pointer};
 use mq_pages::Kind;
 use std::alloc::Global;
-
-/// The number of pointers in a block of pointers.
-const POINTERS: u32 = 1024;
 
 /// The fields of a free inode.
 const FREE: Inode = Inode {
@@ -47,8 +43,8 @@ fn clear_pointers_of(block: &mut [u8], from: u32)
     ensures left { (k : ℕ) → k < 1024 → k < from → pointer_of block.new k ≡ pointer_of block.old k }
     ensures cut { (k : ℕ) → k < 1024 → from ≤ k → pointer_of block.new k ≡ 0 }
 {
-    for k in from..POINTERS {
-        put(block, 4 * k as usize, &0u32.to_le_bytes());
+    for k in from..POINTERS_PER_BLOCK {
+        set_pointer(block, k, 0);
     }
 }
 

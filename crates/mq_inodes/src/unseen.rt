@@ -1,4 +1,4 @@
-// Changes on pages of which some are absent, where it is known what changes all the same.
+// Changes on pages of which some are absent, where what changes is known even so.
 ghost use Rattle.std.specs.Prelude.{◌≡◌, ◌<◌, ℕ, OnOk};
 ghost use Rattle.mq_inodes.specs.Bare.{empty_body, with_inode};
 ghost use Rattle.mq_inodes.specs.Edits.{Becomes, Carries, IsOver, IsSameView};

@@ -8,5 +8,6 @@ pub mod NumbersHolding
 pub mod NumbersReports
 pub mod Drained
 pub mod DrainingRefusing
+pub mod SweepingDrains
 pub mod LawsKeeping
 pub mod LawsInHand

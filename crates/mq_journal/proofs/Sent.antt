@@ -77,7 +77,7 @@ module _ {P E : Type 0} {G : Ghosts P} (state : P → PortState) (faults : P →
   abbrev uu : SideState
   uu = side_state state faults u
 
-  -- the side, as the calls on it speak of it
+  -- the side, as the contracts of its calls see it
   qs : IsQueueSide k q us ss
   qs = let r = has.says.is in record {
     geometry = r.geometry;

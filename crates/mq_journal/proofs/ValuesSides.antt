@@ -1,4 +1,4 @@
--- A side on a desk, as the calls on it speak of it.
+-- A side on a desk, as the contracts of its calls see it.
 use Rattle.std.proofs.Common.{ℕ, List, refl}
 use Rattle.mq_blocks.specs.Drive.{PortState}
 use Rattle.mq_drive.specs.Steps.{PortFault}

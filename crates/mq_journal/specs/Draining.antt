@@ -52,7 +52,8 @@ answer_upto at (Err (cause.Failed tx status)) = if nat_le tx at then Err (cause.
 answer_upto at (Err (cause.FailedHome block status)) = Err (cause.FailedHome block status)
 answer_upto at (Err (cause.Stopped tx why)) = if nat_le tx at then Err (cause.Stopped tx why) else Ok tt
 
--- the queue's mark after a drain: nothing of the queue is undone, or nothing below the number of its failure
+-- the queue's mark after a drain: nothing of the queue is undone, or nothing below the number of its
+-- failure
 abbrev pub mark_after : Result ℕ Cause → ℕ
 mark_after (Ok done) = 2 ^ 64 - 1
 mark_after (Err cause.Off) = 0
@@ -71,7 +72,8 @@ module _ {P E : Type 0} {G : Ghosts P} where
 module _ {P E : Type 0} {G : Ghosts P} (state : P → PortState) (faults : P → List PortFault) (group : GroupView E) where
   -- ---- one side in hand
 
-  -- Whatever is known: with the claim that the queue's numbers below this one are done, the side is what the rule says.
+  -- Whatever is known: with the claim that the queue's numbers below this one are done, the side is what
+  -- the rule says.
   abbrev pub ShowsBelow : ℕ → ℕ → QueueSide P E G → Seat P E G → Type 0
   ShowsBelow q low s v =
       (K : Shared P E G) → Sees (Numbers.machine state faults group) v K
@@ -83,7 +85,8 @@ module _ {P E : Type 0} {G : Ghosts P} (state : P → PortState) (faults : P →
     pub sees : Sees (Numbers.machine state faults group) old known
     pub is : new ≡ giving (slot_of o (Side q)) (after_clear q low known old)
 
-  -- A drain of this side came to this, and it was answered so: where nothing is answered, the mark says how far all is done.
+  -- A drain of this side came to this, and it was answered so: where nothing is answered, the mark says how
+  -- far all is done.
   pub record IsAnswered (o : Start P E G) (at : ℕ) (s : QueueSide P E G) (old new : Seat P E G) (answer : Result (Unit {0}) Cause) : Type 0 where
     pub result : Result ℕ Cause
     pub after : QueueSide P E G
@@ -95,8 +98,8 @@ module _ {P E : Type 0} {G : Ghosts P} (state : P → PortState) (faults : P →
 
   -- ---- over the desk
 
-  -- The session's sweep over the queues has come to this one, by this mark, and all of its numbers up to `at` are done.
-  -- Nothing else of what it knows has changed.
+  -- The session's sweep over the queues has come to this one, by this mark, and all of its numbers up to
+  -- `at` are done. Nothing else of what it knows has changed.
   pub record Passes (q at mark : ℕ) (old new : Seat P E G) : Type 0 where
     pub known : Shared P E G
     pub sees : Sees (Numbers.machine state faults group) old known

@@ -21,14 +21,14 @@ pub record SameSide {P E : Type 0} {G : Ghosts P} (old new : QueueSide P E G) : 
   pub geometry : new.pmr.geometry ≡ old.pmr.geometry
   pub stored : new.stored ≡ old.stored
 
--- what is answered of a drain: how far the queue is done is not told
+-- what is answered of a drain, without the number up to which the queue is done
 abbrev pub drain_answer : Result ℕ Cause → Result (Unit {0}) Cause
 drain_answer (Ok done) = Ok tt
 drain_answer (Err cause) = Err cause
 
 module _ {P E : Type 0} {G : Ghosts P} (state : P → PortState) (faults : P → List PortFault) (group : GroupView E) where
-  -- The session has taken the side's turn: by what was known then, the side is what the rule says. Nothing else of the
-  -- session changes.
+  -- The session has taken the side's turn: by what was known then, the side is what the rule says. Nothing
+  -- else of the session changes.
   pub record TakesSide (o : Start P E G) (q : ℕ) (s : QueueSide P E G) (old new : Seat P E G) : Type 0 where
     pub known : Shared P E G
     pub is : new ≡ holding (slot_of o (Side q)) known old

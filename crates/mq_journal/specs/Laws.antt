@@ -89,8 +89,8 @@ module _ {P E : Type 0} {G : Ghosts P} (state : P → PortState) (faults : P →
       → s.kept ≡ Some (tx, why)
       → ShowsReport state faults group q (report_of (Stopped tx why)) s v
 
-  -- Once a number was drawn on it, turns of other slots may be given back before the commit is sent: all that changes is
-  -- what is held.
+  -- Once a number was drawn on it, turns of other slots may be given back before the commit is sent: all
+  -- that changes is what is held.
   abbrev pub SendsOutliveRest : Type 0
   SendsOutliveRest =
       (o : Start P E G) (q : ℕ) (e : E) (n : NumberedCommit) (ks : List ℕ) (old new w : Seat P E G)

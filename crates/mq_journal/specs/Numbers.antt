@@ -59,8 +59,8 @@ module _ {P E : Type 0} {G : Ghosts P} (state : P → PortState) (faults : P →
 
   -- ---- a side between a draw and its send
 
-  -- Its record says what a side's says, but that all is rung: the commit was drawn last on the queue, and nothing of it
-  -- is staged.
+  -- Its record says what a side's says, but that all is rung: the commit was drawn last on the queue, and
+  -- nothing of it is staged.
   pub record SaysDrawn (n : NumberedCommit) (p : Part) (s : QueueSide P E G) : Type 0 where
     pub is : IsRecord p (side_state state faults s)
     pub stored : AreStored p.txs s.stored.items
@@ -123,15 +123,15 @@ module _ {P E : Type 0} {G : Ghosts P} (state : P → PortState) (faults : P →
     pub holds : (K : Shared P E G) → SeesRest o q v K → (t : Turn) → IsTurn K.opening t → touches values group K.log e t ≡ true → 0 < times (slot_of K.opening t) v.held
     pub may : (K : Shared P E G) → SeesRest o q v K → newest K < 2 ^ 63 → May values group e K
 
-  -- Ring and area have room for what is placed so, by a base that the session has read, and the counts are within
-  -- bounds.
+  -- Ring and area have room for what is placed so, by a base that the session has read, and the counts are
+  -- within bounds.
   pub record HasPlace (s : QueueSide P E G) (v : Seat P E G) (plan : Placed) : Type 0 where
     pub base : ℕ
     pub read : base ≤ v.reading.base
     pub fits : FitIs (area_of s.pmr.geometry) base (rows_of s.stored.items) (state s.pmr.port) plan Yes
     pub bounds : IsBounded (rows_of s.stored.items) (state s.pmr.port) plan
 
-  -- ---- what is told
+  -- ---- what is answered
 
   -- what was read stays read, and more may be known to be done
   pub record ReadOn (old new : Reading PageCell (QueueSide P E G) (Root P G) E) : Type 0 where
@@ -153,8 +153,8 @@ module _ {P E : Type 0} {G : Ghosts P} (state : P → PortState) (faults : P →
   abbrev pub IsResting : QueueSide P E G → Type 0
   IsResting s = staged_end (state s.pmr.port) ≤ (state s.pmr.port).head
 
-  -- Before a draw on the queue: the mark is not above the next number, and where nothing is under way it is past all
-  -- that the session had seen; the side is what the rule says, and the rest is as it was known.
+  -- Before a draw on the queue: the mark is not above the next number, and where nothing is under way it is
+  -- past all that the session had seen; the side is what the rule says, and the rest is as it was known.
   pub record IsMarked (o : Start P E G) (q : ℕ) (s : QueueSide P E G) (old : Seat P E G) (K : Shared P E G) : Type 0 where
     pub mark : mark_of q K.claims ≤ suc (newest K)
     pub past : IsResting s → old.seen < mark_of q K.claims
@@ -170,7 +170,8 @@ module _ {P E : Type 0} {G : Ghosts P} (state : P → PortState) (faults : P →
     pub drawn : new.drawn ≡ old.drawn
     pub rest : SameSession old new
 
-  -- What was known at the draw; with the entry it is what the session then knows of all that the entry changes.
+  -- What was known at the draw; with the entry it is what the session then knows of all that the entry
+  -- changes.
   pub record Draws (o : Start P E G) (q : ℕ) (e : E) (old new : Seat P E G) (s : QueueSide P E G) (n : NumberedCommit) : Type 0 where
     pub known : Shared P E G
     pub sees : SeesRest o q old known

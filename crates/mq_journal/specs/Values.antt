@@ -28,16 +28,17 @@ abbrev pub rung_of : ℕ → List Tx → ℕ → ℕ
 rung_of start [] doorbell = 0
 rung_of start (t ∷ ts) doorbell = if nat_lt doorbell (end_of start (t ∷ ts)) then length ts else suc (length ts)
 
--- With the events that are still to come, no more have happened since the opening than the transactions and the
--- faults allow. So it is until there are as many faults as a count of 64 bits can say.
+-- With the events that are still to come, no more have happened since the opening than the transactions and
+-- the faults allow. This holds until there are as many faults as a count of 64 bits can hold.
 abbrev pub AreFew : Part → SideState → Type 0
 AreFew p s =
     (2 ^ 64 - 1 ≤ length s.faults)
     ⊎ (s.port.events + ahead (end_of p.start p.txs) s ≤ p.opened.events + most_events p.txs + length s.faults)
 
--- What a side's record says beside its port: its records are of the queue's transactions, the failure that it
--- keeps is one of the faults that its port has gained since the opening, each transaction that was sent was rung once, and
--- the port has the fuse that it had at the opening, and the same of its commands and home writes fails.
+-- What a side's record says beside its port: its records are of the queue's transactions, the failure that
+-- it keeps is one of the faults that its port has gained since the opening, each transaction that was sent
+-- was rung once, and the port has the fuse that it had at the opening, and the same of its commands and
+-- home writes fails.
 pub record IsRecord (p : Part) (s : SideState) : Type 0 where
   pub geometry : s.geometry ≡ p.geometry
   pub queue : s.queue ≡ p.queue
@@ -81,15 +82,16 @@ pub record IsUnrung (from : ℕ) (us : List Tx) (count n : ℕ) : Type 0 where
   pub number : n ≡ t.number
   pub above : count < end_of from (t ∷ ts)
 
--- A command of the transaction, which is rung, has failed; or its send was cut. A failure is kept from then on.
+-- A command of the transaction, which is rung, has failed; or its send was cut. A failure is kept from then
+-- on.
 abbrev pub StaysFailed : ℕ → List Tx → ℕ → List Command → Option (ℕ × Why) → ℕ → Type 0
 StaysFailed from us doorbell failed kept n = (kept ≢ None) × HasTx n failed × IsBelow from us doorbell n
 
 abbrev pub StaysCut : ℕ → List Tx → ℕ → Option (ℕ × Why) → ℕ → Type 0
 StaysCut from us doorbell kept n = (kept ≢ None) × IsUnrung from us doorbell n
 
--- What the side shows of a report of its port: a transaction that was rung stands below the doorbell, and one that
--- stays undone is so still.
+-- What the side shows of a report of its port: a transaction that was rung stands below the doorbell, and
+-- one that stays undone is so still.
 abbrev pub Shows : ℕ → List Tx → ℕ → List Command → Option (ℕ × Why) → Report → Type 0
 Shows from us doorbell failed kept report.Off = Unit {0}
 Shows from us doorbell failed kept (report.Failed tx status) = StaysFailed from us doorbell failed kept tx

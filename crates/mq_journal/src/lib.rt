@@ -9,6 +9,7 @@ mod machine;
 mod numbers;
 mod reporting;
 mod sending;
+mod sweeping;
 
 pub use draining::{drain, report_of};
 pub use held::{drain_held, give_back_side, take_side};
@@ -19,3 +20,4 @@ pub use machine::{Groups, JournalMachine};
 pub use numbers::number;
 pub use reporting::report_side;
 pub use sending::send;
+pub use sweeping::drain_all;

@@ -7,8 +7,8 @@ use mq_side::{QueueSide, Root};
 use mq_turns::Machine;
 use std::marker::PhantomData;
 
-/// A kind of groups of requests: the entry that is drawn for a group, and what it does to the map of
-/// home blocks.
+/// The groups of requests that a desk commits: the type of the entry that is drawn for a group, and how the
+/// rule of the desk reads such an entry.
 pub trait Groups {
     ghost use Rattle.mq_rules.specs.Groups.{GroupView};
 

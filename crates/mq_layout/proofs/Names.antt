@@ -1,4 +1,4 @@
--- The test of a name tells whether it is good.
+-- The test of a name decides whether it is good.
 use Rattle.std.proofs.Common.{◌≡◌, ◌≢◌, ℕ, List, Bool, true, false, refl}
 use Rattle.std.specs.Prelude.{not}
 use Rattle.std.specs.Str.{bytes_eq}

@@ -5,7 +5,7 @@ use Rattle.mq_layout.specs.declared.refusal.LayoutCause.{LayoutCause}
 use Rattle.mq_layout.specs.declared.refusal.LayoutCause.TheVariants.{Zero}
 use Rattle.mq_layout.specs.declared.refusal.LayoutRefusal.{LayoutRefusal}
 
--- so many bytes, all 0
+-- `count` bytes, all 0
 unfoldable pub zero_bytes : ℕ → List ℕ
 zero_bytes count = replicate count 0
 
@@ -16,7 +16,7 @@ refused cause offset = record { cause = cause; offset = offset }
 abbrev pub field : LayoutCause → ℕ → Bool → Option LayoutRefusal
 field cause offset right = if right then None else Some (refused cause offset)
 
--- So many numbers of `size` bytes each, from an offset on, which have to be 0: the first that is not.
+-- `count` numbers of `size` bytes each, from an offset on, which have to be 0: the first that is not.
 unfoldable pub nonzero : (size count from : ℕ) → List ℕ → Option LayoutRefusal
 nonzero size zero from block = None
 nonzero size (suc count) from block = if nat_eq (number_at size from block) 0 then nonzero size count (from + size) block else Some (refused Zero from)

@@ -68,20 +68,11 @@ pub fn pointer(block: &Block, at: u32) -> u32
     u32_at(block.bytes(), 4 * at as usize)
 }
 
-/// Sets a pointer of an indirect block.
-pub fn set_pointer(into: &mut Block, at: u32, value: u32)
-    requires { at < 1024 }
-    ensures whole { length into.new ≡ 4096 }
-    ensures bytes { (k : ℕ) → slice_index into.new k < 256 }
-    ensures is { into.new ≡ written into.old (4 * at) (to_le_bytes w32 value) }
-{
-    set_pointer_of(into.bytes_mut(), 4 * at as usize, value);
-}
-
-fn set_pointer_of(block: &mut [u8], at: usize, value: u32)
-    requires { at + 4 ≤ length block.old }
+/// Sets a pointer of an indirect block, of which these are the bytes.
+pub fn set_pointer(block: &mut [u8], at: u32, value: u32)
+    requires { 4 * at + 4 ≤ length block.old }
     ensures bytes { (k : ℕ) → slice_index block.new k < 256 }
-    ensures is { block.new ≡ written block.old at (to_le_bytes w32 value) }
+    ensures is { block.new ≡ written block.old (4 * at) (to_le_bytes w32 value) }
 {
-    put(block, at, &value.to_le_bytes());
+    put(block, 4 * at as usize, &value.to_le_bytes());
 }

@@ -158,7 +158,8 @@ at_below base t u ts txs (w ∷ ws) n (inr above) (inl other) l =
     absurd (let k = at_most base t ts ws n.1 above in let e : w.number ≡ u.number = ap (λ (k : Tx). k.number) other.0 in omega (arith, n.0))
 at_below base t u ts txs (w ∷ ws) n (inr above) (inr deeper) l = at_below base t u ts txs ws n.1 above deeper l
 
--- A block that a transaction past the front found free, and that nothing since the base changed, is free at the base.
+-- A block that a transaction past the front found free, and that nothing since the base changed, is free at
+-- the base.
 pub free_at : (start : Map) (base m f : ℕ) (t : Tx) (ts h : List Tx) (x : ℕ) → AreNumbered base h → IsAt t ts h → f < t.number → m ≤ f → map_after start ts x ≡ None → last base ts x ≤ f → last base (upto f h) x ≤ m → map_after start (upto m h) x ≡ None
 free_at start base m f t ts h x n at past low free settled l =
     let k = at_numbered base t ts h n at in

@@ -38,7 +38,7 @@ stands_upto start f h x (Written n i) c s = (s.0, s.1, at_upto f s.0 s.1 h s.2, 
 
 -- ---- the guard
 
--- the part of a draw's guard that speaks of the history, of the ledger itself
+-- the part of a draw's guard that is about the history, of the ledger itself
 pub record MayFollow (s : Ledger) (word : ℕ) (t : Tx) : Type 0 where
   pub form : IsTx s.geometry t
   pub number : (t.number ≡ s.base + length s.history + 1) × (t.number ≤ number_limit)

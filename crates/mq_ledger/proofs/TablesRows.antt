@@ -18,7 +18,7 @@ at-length t ts [] at = absurd at
 at-length t ts (u ∷ txs) (inl same) = (let e : length txs ≡ length ts = ap length same.1 in omega arith)
 at-length t ts (u ∷ txs) (inr deeper) = omega (arith, at-length t ts txs deeper)
 
--- the transaction with so many before it
+-- the transaction with k before it
 pub record HasBefore (k : ℕ) (h : List Tx) : Type 0 where
   pub t : Tx
   pub ts : List Tx

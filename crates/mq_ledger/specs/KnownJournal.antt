@@ -28,8 +28,8 @@ pub record KnownJournal : Type 0 where
 abbrev pub front : KnownJournal → ℕ
 front k = k.base + length (part_of k.done k.history)
 
--- What holds of a transaction by itself: no more blocks than it may write, in rising lists, none twice, of which
--- it frees none; the direct ones in its queue's zone, and the revoked ones among them.
+-- What holds of a transaction by itself: no more blocks than it may write, in rising lists, none twice, of
+-- which it frees none; the direct ones in its queue's zone, and the revoked ones among them.
 pub record IsTx (g : Geometry) (t : Tx) : Type 0 where
   pub queue : t.queue < g.queues
   pub logged : AreRising 0 (homes_of g) (blocks_of t.logged)
@@ -64,7 +64,7 @@ pub record LogOk (k : KnownJournal) : Type 0 where
 abbrev pub draw_known : Tx → KnownJournal → KnownJournal
 draw_known t k = record k { history = t ∷ k.history }
 
--- The part of a draw's guard that speaks of the history: its number is the next, it frees blocks of the
+-- The part of a draw's guard that is about the history: its number is the next, it frees blocks of the
 -- map, its direct blocks are free and settled, and those that have a copy above the base are revoked.
 pub record MayDraw (k : KnownJournal) (t : Tx) : Type 0 where
   pub form : IsTx k.geometry t

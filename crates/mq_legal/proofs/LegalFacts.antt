@@ -1,5 +1,5 @@
--- What the clauses of a run come to: each number has its commit, numbers never fall, and a good commit has moved its
--- doorbell.
+-- What the clauses of a run come to: each number has its commit, numbers never fall, and a good commit has
+-- moved its doorbell.
 use Rattle.std.proofs.Common.{◌≡◌, ◌∙◌, ℕ, zero, suc, ◌+◌, ◌<◌, ◌≤◌, ◌⊎◌, inl, inr, Bool, true, false, List, [], ◌∷◌, ◌++◌, refl, sym, ap, subst, arith}
 use Rattle.std.specs.List.{Contains}
 use Rattle.std.proofs.lemmas.Bool.{true≢false}

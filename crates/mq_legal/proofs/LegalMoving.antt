@@ -78,7 +78,7 @@ found-from n P limit at below zero b e = record {
 }
 found-from n P limit at below (suc k) b e = found-more n P b (at b) (found-from n P limit at below k (b + 1) (omega (arith, e)))
 
--- so many are below a number
+-- how many rising numbers may stand from one number up to another
 rising-few : {X : Type 0} (n : X → ℕ) (limit : ℕ) (xs : List X) (b : ℕ) → b ≤ limit → AllPairs (λ x y. n x < n y) xs → All (λ x. b ≤ n x) xs → All (λ x. n x < limit) xs → b + length xs ≤ limit
 rising-few n limit [] b top rise above below = omega arith
 rising-few n limit (x ∷ xs) b top rise above below =

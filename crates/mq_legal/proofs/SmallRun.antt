@@ -1,4 +1,4 @@
--- The small run: it is legal, answered and cut; and what may not be told of it.
+-- The small run: it is legal, answered and cut; and what may not be reported of it.
 use Rattle.std.proofs.Common.{◌≡◌, ◌≢◌, ◌∙◌, ℕ, zero, suc, ◌+◌, ◌<◌, ◌≤◌, inl, inr, Bool, true, false, List, [], ◌∷◌, length, refl, sym, ap, subst, lit≤, arith}
 use Rattle.std.specs.Prelude.{None, Some, Result, Ok, Err, codes}
 use Rattle.std.specs.List.{All, Contains}
@@ -170,7 +170,7 @@ small-cut =
     let e = run-ends two small_scripts empty 0 small_lines small_answers small_bell small-run made-sound (lit≤ tt) (λ q. omega (arith, few, homes)) small-acknowledged in
     (e.0, e.1, e.2, subst (λ (n : ℕ). IsRung two small_scripts empty small_lines small_answers 0 0 n) (sym (e.3 0)) small-rung, let d = e.3 0 in omega (arith, d))
 
--- ---- what may not be told
+-- ---- what may not be reported
 
 none-in : {X : Type 0} (x : X) → Contains [] x → ⊥
 none-in x c = absurd (omega (arith, c.1))
@@ -198,7 +198,7 @@ number-twice g ss v n l m c d run e =
     let second : m.number ≡ l.number + 1 = run.1.0.number ∙ ap (λ b. number_after l.number b) d in
     omega (arith, first, second, e)
 
--- a commit that is told as a read
+-- a commit that is reported as a read
 pub no-read : IsRun two small_scripts empty 0 (as_read ∷ []) → ⊥
 no-read run = changed (run.0.stays refl)
 

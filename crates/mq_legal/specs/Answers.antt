@@ -36,8 +36,8 @@ group_told scripts t = group_at scripts t.session t.group
 
 -- ---- which groups are answered
 
--- The groups of a session that are answered are the first ones of its script: all of them, unless the last answer ends
--- the session. No other answer does.
+-- The groups of a session that are answered are the first ones of its script: all of them, unless the last
+-- answer ends the session. No other answer does.
 pub record IsPrefixAnswered (scripts : List Script) (answers : List Told) (s : ℕ) : Type 0 where
   pub count : ℕ
   pub most : count ≤ length (groups_of scripts s)
@@ -58,15 +58,15 @@ abbrev pub number_in : Result ℕ Refusal → Option ℕ
 number_in (Ok n) = Some n
 number_in (Err r) = r.drawn
 
--- The line of the group has the number that the answer names, and is a commit where the answer is a refusal. Where the
--- answer names none, the group has no line.
+-- The line of the group has the number that the answer names, and is a commit where the answer is a
+-- refusal. Where the answer names none, the group has no line.
 abbrev pub Names : List Line → Told → Option ℕ → Type 0
 Names lines t None = (l : Line) → Contains lines l → IsLineOf l t.session t.group → ⊥
 Names lines t (Some n) =
     (l : Line) × Contains lines l × IsLineOf l t.session t.group × (l.number ≡ n) × (is_good t.answer ≡ false → l.commit ≡ true)
 
--- Of each script the groups of a prefix are answered, each once. Each answer names the line of its group, and each line
--- is that of an answered group.
+-- Of each script the groups of a prefix are answered, each once. Each answer names the line of its group,
+-- and each line is that of an answered group.
 pub record AreAnswered (scripts : List Script) (lines : List Line) (answers : List Told) : Type 0 where
   pub of : (t : Told) → Contains answers t → IsGroup scripts t.session t.group
   pub ends : (t : Told) → Contains answers t → t.end ≡ (group_told scripts t).end
@@ -86,8 +86,8 @@ IsAcknowledged scripts answers n =
 abbrev pub HasSeen : List Line → (session group n : ℕ) → Type 0
 HasSeen lines s k n = (l : Line) → Contains lines l → l.session ≡ s → l.group < k → l.number ≤ n
 
--- The group writes so many blocks, more than a transaction may, on the volume at a number that its session had not
--- passed.
+-- The group writes `count` blocks, more than a transaction may, on the volume at a number that its session
+-- had not passed.
 pub record IsLarge (g : Geometry) (scripts : List Script) (v : Volume) (base : ℕ) (lines : List Line) (t : Told) (count : ℕ) : Type 0 where
   pub at : ℕ
   pub least : base ≤ at
@@ -106,8 +106,8 @@ pub record IsChanging (scripts : List Script) (t : Told) (index : ℕ) : Type 0 
 abbrev pub HasCommit : List Line → ℕ → Type 0
 HasCommit lines n = (l : Line) × Contains lines l × (l.commit ≡ true) × (l.number ≡ n)
 
--- A commit among the lines has this number, is of a queue of the drive, and was not reached: it is above `reached`, the
--- number that the image at the end reaches.
+-- A commit among the lines has this number, is of a queue of the drive, and was not reached: it is above
+-- `reached`, the number that the image at the end reaches.
 pub record IsUndone (g : Geometry) (lines : List Line) (reached n : ℕ) : Type 0 where
   pub line : Line
   pub told : Contains lines line
@@ -125,8 +125,8 @@ abbrev pub HasFailure : Why → Type 0
 HasFailure (Status status) = IsFailure status
 HasFailure why = Unit {0}
 
--- what a port's cause says of the history: a transaction that failed, or that stopped its queue, is undone; and a home write
--- that failed is of a home block, so of the port of a queue or of the root
+-- what a port's cause says of the history: a transaction that failed, or that stopped its queue, is undone;
+-- and a home write that failed is of a home block, so of the port of a queue or of the root
 abbrev pub IsPortCause : Geometry → List Line → (reached : ℕ) → Cause → Type 0
 IsPortCause g lines reached (Failed tx status) = IsUndone g lines reached tx × IsFailure status
 IsPortCause g lines reached (FailedHome block status) = (block < homes_of g) × IsFailure status
@@ -146,8 +146,8 @@ MayRefuseAsk OutOfMemory = Unit {0}
 MayRefuseAsk (Changes index) = Unit {0}
 MayRefuseAsk cause = ⊥
 
--- A group that has drawn the number n is refused for a port that is off; or, by a drain of `fsync`, for a transaction up to
--- its own.
+-- A group that has drawn the number n is refused for a port that is off; or, by a drain of `fsync`, for a
+-- transaction up to its own.
 abbrev pub IsLatePort : End → (n : ℕ) → Cause → Type 0
 IsLatePort end n Off = Unit {0}
 IsLatePort end n (Failed tx status) = (end ≡ Fsync) × (tx ≤ n)
@@ -158,15 +158,15 @@ abbrev pub IsLate : End → (n : ℕ) → CallCause → Type 0
 IsLate end n (Drive cause) = IsLatePort end n cause
 IsLate end n cause = ⊥
 
--- A refusal has its cause, which is one of those that the group's end has; and it names a drawn number only where it may
--- come after the draw.
+-- A refusal has its cause, which is one of those that the group's end has; and it names a drawn number only
+-- where it may come after the draw.
 pub record IsRefusedFor (g : Geometry) (scripts : List Script) (v : Volume) (base : ℕ) (lines : List Line) (reached : ℕ) (t : Told) (r : Refusal) : Type 0 where
   pub cause_is : IsCause g scripts v base lines reached t r.cause
   pub asks : (group_told scripts t).end ≡ Ask → MayRefuseAsk r.cause
   pub late : (n : ℕ) → r.drawn ≡ Some n → IsLate (group_told scripts t).end n r.cause
 
--- A group is refused for a cause that holds; and a group that asks is refused for a request that may change something
--- wherever it has one.
+-- A group is refused for a cause that holds; and a group that asks is refused for a request that may change
+-- something wherever it has one.
 pub record IsCaused (g : Geometry) (scripts : List Script) (v : Volume) (base : ℕ) (lines : List Line) (reached : ℕ) (t : Told) : Type 0 where
   pub refused : (r : Refusal) → t.answer ≡ Err r → IsRefusedFor g scripts v base lines reached t r
   pub changing : (index : ℕ) → IsChanging scripts t index → t.answer ≡ Err (refusal_at index)

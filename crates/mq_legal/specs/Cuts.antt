@@ -39,9 +39,9 @@ pub record ShowsVolume (g : Geometry) (i : Shown) (ds : List Descriptor) (v : Vo
   pub laid : IsLaid g map v
   pub each : (b : ℕ) (page : List ℕ) → map b ≡ Some page → stands g i ds b ≡ page
 
--- The image is a cut of the history. It is readable, and so rung whole; it reaches a number r of the history, and stands
--- for the volume at r. All that was acknowledged is at most r. No number that it shows is above the last one, so that the
--- next run goes on from there.
+-- The image is a cut of the history. It is readable, and so rung whole; it reaches a number r of the
+-- history, and stands for the volume at r. All that was acknowledged is at most r. No number that it shows
+-- is above the last one, so that the next run goes on from there.
 pub record IsCut (g : Geometry) (scripts : List Script) (v : Volume) (base : ℕ) (lines : List Line) (answers : List Told) (i : Shown) (r : ℕ) : Type 0 where
   pub ds : List Descriptor
   pub top : ℕ
@@ -64,14 +64,14 @@ abbrev pub HasShare : Geometry → (old new : Volume) → (is_on : Bool) → (su
 HasShare g v w false sum rest = sum ≡ rest
 HasShare g v w true sum rest = (count : ℕ) × Writes g v w count × (sum ≡ count + 1 + rest)
 
--- the commits of a queue among these lines have so many entries
+-- the commits of a queue among these lines have this number of entries in all
 abbrev pub HasEntries : Geometry → List Script → (queue : ℕ) → Volume → List Line → ℕ → Type 0
 HasEntries g scripts q v [] sum = sum ≡ 0
 HasEntries g scripts q v (l ∷ ls) sum =
     (rest : ℕ) × HasEntries g scripts q (next g scripts v l) ls rest × HasShare g v (next g scripts v l) (is_on q l) sum rest
 
--- The doorbell went on from the old value by the entries of the queue's commits in a prefix of the lines, which has every
--- commit of the queue whose group was answered well.
+-- The doorbell went on from the old value by the entries of the queue's commits in a prefix of the lines,
+-- which has every commit of the queue whose group was answered well.
 pub record IsRung (g : Geometry) (scripts : List Script) (v : Volume) (lines : List Line) (answers : List Told) (q : ℕ) (old new : ℕ) : Type 0 where
   pub sent : List Line
   pub unsent : List Line
@@ -88,8 +88,8 @@ pub record IsRung (g : Geometry) (scripts : List Script) (v : Volume) (lines : L
 
 -- ---- a clean image
 
--- The base is n, which is the greatest number that the image shows; no transaction is above it, and each head is at its
--- doorbell.
+-- The base is n, which is the greatest number that the image shows; no transaction is above it, and each
+-- head is at its doorbell.
 pub record IsClean (g : Geometry) (i : Shown) (n : ℕ) : Type 0 where
   pub base_is : i.base ≡ n
   pub read : IsReadPrefix g i [] n

@@ -1,4 +1,4 @@
--- A history of entries on a map: the volumes that lie on its maps, and the lines that tell of it.
+-- A history of entries on a map: the volumes that lie on its maps, and the lines that report it.
 use Rattle.std.specs.Prelude.{◌≡◌, ◌≢◌, ◌<◌, ◌≤◌, ℕ, ◌+◌, true, false, List, [], ◌∷◌, length}
 use Rattle.std.specs.List.{All}
 use Rattle.mq_blocks.specs.Geometry.{queues_of, write_limit}
@@ -35,7 +35,8 @@ AllDo g m (e ∷ es) = Does g m e × AllDo g (after m (change_of (tx_of e))) es
 
 -- ---- an entry on a volume
 
--- Its group is answered on the volume as the entry says, and writes and frees there just what the entry says.
+-- Its group is answered on the volume as the entry says, and writes and frees there just what the entry
+-- says.
 pub record RunsOn (g : Geometry) (v : Volume) (e : FileEntry) : Type 0 where
   pub queue : e.session < queues_of g
   pub answered : e.replies ≡ replies g e.session v e.requests
@@ -62,7 +63,7 @@ pub record WritesNothing (e : FileEntry) : Type 0 where
 abbrev pub AreOfBytes : List Script → Type 0
 AreOfBytes scripts = (s k : ℕ) → IsGroup scripts s k → All HasBytes (group_at scripts s k).requests
 
--- the line tells of the entry, which is one of its group
+-- the line reports the entry, which is one of its group
 pub record TellsOf (scripts : List Script) (l : Line) (e : FileEntry) : Type 0 where
   pub of : IsGroup scripts l.session l.group
   pub session_is : e.session ≡ l.session
@@ -86,7 +87,8 @@ pub record IsReadOf (g : Geometry) (scripts : List Script) (m : Map) (n : ℕ) (
   pub asks : RanUndrawn g m e
   pub quiet : WritesNothing e
 
--- The lines, from this map and number on: the commits of the entries, one after another, and between them the reads.
+-- The lines, from this map and number on: the commits of the entries, one after another, and between them
+-- the reads.
 pub data AreLinesOf (g : Geometry) (scripts : List Script) : Map → ℕ → List FileEntry → List Line → Type 0 where
   none : {m : Map} {n : ℕ} → AreLinesOf g scripts m n [] []
   commit : {m : Map} {n : ℕ} {es : List FileEntry} {ls : List Line} (e : FileEntry) (l : Line)

@@ -195,7 +195,7 @@ HistoriesEndAtTheNewest =
 
 -- ---- changes
 
--- from a sound volume to another so many blocks are written
+-- from a sound volume to another some number of blocks is written
 abbrev pub ChangesHaveACount : Type 0
 ChangesHaveACount = (g : Geometry) (v w : Volume) → IsSound g v → IsSound g w → (count : ℕ) × Writes g v w count
 

@@ -11,7 +11,7 @@ use Rattle.mq_script.specs.Scripts.{Group, Script}
 use Rattle.mq_tree.specs.Requests.{after_group, replies}
 use Rattle.mq_tree.specs.Volume.{Volume}
 
--- the group that a line tells of
+-- the group that a line reports
 abbrev pub group_of : List Script → Line → Group
 group_of scripts l = group_at scripts l.session l.group
 
@@ -26,8 +26,8 @@ abbrev pub number_after : ℕ → (commit : Bool) → ℕ
 number_after n true = n + 1
 number_after n false = n
 
--- On the volume at a number, the line tells what its group is answered there. It is a commit if the group changes the
--- volume, and a read if it does not.
+-- On the volume at a number, the line gives what its group is answered there. It is a commit if the group
+-- changes the volume, and a read if it does not.
 pub record IsStep (g : Geometry) (scripts : List Script) (v : Volume) (n : ℕ) (l : Line) : Type 0 where
   pub of : IsGroup scripts l.session l.group
   pub queue : l.session < queues_of g
@@ -44,7 +44,7 @@ IsRun g scripts v n (l ∷ ls) = IsStep g scripts v n l × IsRun g scripts (next
 
 -- ---- how much a group writes
 
--- from one volume to the other, so many blocks are written
+-- from one volume to the other, `count` blocks are written
 pub record Writes (g : Geometry) (v w : Volume) (count : ℕ) : Type 0 where
   pub writes : List Write
   pub frees : List ℕ
@@ -62,8 +62,8 @@ AllWriteFew g scripts v (l ∷ ls) = WritesFew g v (next g scripts v l) × AllWr
 
 -- ---- a legal list
 
--- From a volume and a base, the lines are a run; each session's groups stand in their order, none twice; and none writes
--- more than a transaction may.
+-- From a volume and a base, the lines are a run; each session's groups stand in their order, none twice;
+-- and none writes more than a transaction may.
 pub record IsLegal (g : Geometry) (scripts : List Script) (v : Volume) (base : ℕ) (lines : List Line) : Type 0 where
   pub run : IsRun g scripts v base lines
   pub sessions : AllPairs (λ l m. l.session ≡ m.session → l.group < m.group) lines

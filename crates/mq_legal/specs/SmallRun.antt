@@ -65,7 +65,7 @@ small_answers = small_told ∷ []
 abbrev pub as_read : Line
 as_read = record { number = 0; commit = false; session = 0; group = 0; end = Fsync; replies = Done ∷ Done ∷ Done ∷ [] }
 
--- that the group writes so many blocks
+-- that the group writes `count` blocks, which are too many
 abbrev pub as_large : ℕ → Told
 as_large count = record { session = 0; group = 0; end = Fsync; answer = Err (record { cause = TooLarge count (write_limit two); drawn = None }) }
 

@@ -56,7 +56,7 @@ pub fn a_run_goes_on()
 {}
 
 /// Entries that do what they say, one after another on a map on which a volume lies, lead from volume to
-/// volume: after each of them the volume after its group lies on the map. So the lines that tell of them are
+/// volume: after each of them the volume after its group lies on the map. So the lines that report them are
 /// a run. An entry that was read, and neither writes nor frees, leaves the volume as it is.
 pub fn a_history_is_a_run()
     ensures laid { HistoriesLie }
@@ -80,8 +80,8 @@ pub fn spelled_scripts_are_of_bytes()
     ensures { SpelledScriptsAreOfBytes }
 {}
 
-/// The run of one group that makes a directory and a file is legal, answered and cut; and what might be told
-/// of it in its place is refused.
+/// The run of one group that makes a directory and a file is legal, answered and cut; and what might be
+/// reported of it in its place is refused.
 pub fn a_small_run()
     ensures legal { TheSmallRunIsLegal }
     ensures answered { TheSmallRunIsAnswered }

@@ -1,4 +1,4 @@
--- What a completion tells of its command.
+-- What a completion says of its command.
 use Rattle.std.proofs.Common.{◌≡◌, ◌<◌, ◌≤◌, ◌^◌, ◌%◌, ℕ, List, length, Bool, true, false, if◌then◌else◌, refl, ◌∙◌, arith}
 use Rattle.mq_blocks.specs.Drive.{depth}
 use Rattle.mq_nvme.specs.declared.completion.Ended.{Ended}

@@ -1,4 +1,4 @@
--- What an entry tells of its request.
+-- What an entry says of its request.
 use Rattle.std.proofs.Common.{◌≡◌, ℕ, ◌+◌, ◌*◌, ◌/◌, ◌%◌, ◌^◌, List, length, Bool, true, false, ◌==◌, if◌then◌else◌, refl, sym, ◌∙◌, ap, arith}
 use Rattle.mq_nvme.specs.declared.write.WriteReq.{WriteReq}
 use Rattle.mq_nvme.specs.Entry.{entry_of, tx_of, lba_of, is_commit, request_of, slot_of, IsWrite}

@@ -15,7 +15,7 @@ power k h = one_shl k 64 (omega arith)
 below_low : (low n : ℕ) → n % 2 ^ low < 2 ^ low
 below_low low n = mod_below n (2 ^ low) (pow_pos low)
 
--- two parts of a number, of so many bits each
+-- two parts of a number, of j and of k bits
 parts_fit : (j k high low : ℕ) → high < 2 ^ j → low < 2 ^ k → high * 2 ^ k + low < 2 ^ (k + j)
 parts_fit j k high low h l = rw (pow-add 2 k j) (mul-add-lt high (2 ^ k) low (2 ^ j) h l)
 

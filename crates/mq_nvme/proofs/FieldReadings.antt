@@ -17,7 +17,7 @@ pub count_is : (e : List ℕ) → get_field (place 12 0 16) e ≡ slice_index e 
 unfolding get_field bits_of
 count_is e = omega arith
 
--- the fields that tell a write of one logical block
+-- the fields by which an entry is a write of one logical block
 pub ruleset block_fields = (whole, opcode_is, count_is)
 
 pub slot_is : (count : ℕ) (e : List ℕ) → AreDwords count e → get_field (place 0 16 16) e ≡ slot_of e

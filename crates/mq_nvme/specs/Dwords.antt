@@ -4,7 +4,7 @@ use Rattle.std.specs.Prelude.{◌≡◌, ◌<◌, ◌^◌, ℕ, List, length, sl
 use Rattle.std.specs.Int.{to_le_bytes, w32}
 use Rattle.std.specs.List.{flat_map}
 
--- so many dwords
+-- `count` dwords
 pub record AreDwords (count : ℕ) (dwords : List ℕ) : Type 0 where
   pub long : length dwords ≡ count
   pub fit : (k : ℕ) → slice_index dwords k < 2 ^ 32

@@ -31,7 +31,7 @@ is_commit e = slice_index e 12 / 2 ^ 17 % 2 == 1
 abbrev pub slot_of : List ℕ → ℕ
 slot_of e = slice_index e 0 / 65536
 
--- the request that an entry speaks of, if it is a write
+-- the request that an entry makes, if it is a write
 unfoldable pub request_of : List ℕ → WriteReq
 request_of e = record { tx = tx_of e; slot = slot_of e; lba = lba_of e; commit = is_commit e }
 
@@ -93,7 +93,7 @@ command_rules =
     ∷ zero_at 15
     ∷ []
 
--- the first rule that is broken tells the refusal
+-- the first rule that is broken gives the refusal
 abbrev pub first_refusal : List Rule → List ℕ → Option EntryRefusal
 first_refusal [] e = None
 first_refusal (r ∷ rs) e = if r.holds e then first_refusal rs e else Some (r.refusal e)

@@ -11,7 +11,7 @@ pub record Place : Type 0 where
 abbrev pub place : ℕ → ℕ → ℕ → Place
 place dword low width = record { dword = dword; low = low; width = width }
 
--- the field lies within the 32 bits of one of so many dwords
+-- the field lies within the 32 bits of one of `count` dwords
 pub record IsWithin (count : ℕ) (p : Place) : Type 0 where
   pub dword : p.dword < count
   pub some : 1 ≤ p.width

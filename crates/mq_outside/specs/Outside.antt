@@ -28,29 +28,29 @@ Rose old new = (old < new) ⊎ ((old ≡ count_end) × (new ≡ count_end))
 abbrev pub Held : Type 0
 Held = List ℕ → Option (List ℕ)
 
--- What files show: what each name holds, where they tell it, how many of their calls failed, and how many bytes
--- their loads took.
+-- What files show: what each name holds, where they show it, how many of their calls failed, and how many
+-- bytes their loads took.
 pub record FilesState : Type 0 where
   pub contents : Option Held
   pub faults : ℕ
   pub taken : ℕ
 
--- what a sink shows: the bytes written so far, where it tells them, and how many of its calls failed
+-- what a sink shows: the bytes written so far, where it shows them, and how many of its calls failed
 pub record SinkState : Type 0 where
   pub contents : Option (List ℕ)
   pub faults : ℕ
 
--- where the files tell what they hold, the name holds the bytes
+-- where the files show what they hold, the name holds the bytes
 abbrev pub Holds : Option Held → List ℕ → List ℕ → Type 0
 Holds None name bytes = Unit {0}
 Holds (Some held) name bytes = held name ≡ Some bytes
 
--- where the files tell what they hold, the name holds more bytes than one load gives
+-- where the files show what they hold, the name holds more bytes than one load gives
 abbrev pub HoldsOver : Option Held → List ℕ → Type 0
 HoldsOver None name = Unit {0}
 HoldsOver (Some held) name = (bytes : List ℕ) × (held name ≡ Some bytes) × (load_limit < length bytes)
 
--- the files tell what they hold, and that this is what the name holds
+-- the files show what they hold, and that this is what the name holds
 abbrev pub Tells : Option Held → List ℕ → Option (List ℕ) → Type 0
 Tells None name held = ⊥
 Tells (Some holds) name held = holds name ≡ held
@@ -59,7 +59,7 @@ Tells (Some holds) name held = holds name ≡ held
 abbrev pub put_held : Held → List ℕ → List ℕ → Held
 put_held held name bytes = λ other. cond (bytes_eq other name) (Some bytes) (held other)
 
--- the same of what files tell
+-- the same of what files show
 abbrev pub put_name : Option Held → List ℕ → List ℕ → Option Held
 put_name None name bytes = None
 put_name (Some held) name bytes = Some (put_held held name bytes)
@@ -78,7 +78,8 @@ LoadCause (Err load.Failed) old new = Rose old new
 LoadCause (Err load.TooLong) old new = new ≡ old
 LoadCause (Err load.OutOfMemory) old new = new ≡ old
 
--- the bytes taken by loads never fall, rise by at most the limit at Ok, and by more where a load was too long
+-- the bytes taken by loads never fall, rise by at most the limit at Ok, and by more where a load was too
+-- long
 abbrev pub LoadTakes : {T : Type 0} → Result T LoadRefusal → ℕ → ℕ → Type 0
 LoadTakes (Ok _) old new = (old ≤ new) × (new ≤ old + load_limit)
 LoadTakes (Err load.Failed) old new = old ≤ new
@@ -103,7 +104,7 @@ Saves (Ok _) old new name bytes = new ≡ put_name old name bytes
 Saves (Err save.Failed) old new name bytes = OthersSame old new name
 Saves (Err save.OutOfMemory) old new name bytes = new ≡ old
 
--- what a sink holds after these bytes too, where it is told
+-- what a sink holds after these bytes too, where it shows that
 abbrev pub appended : Option (List ℕ) → List ℕ → Option (List ℕ)
 appended None bytes = None
 appended (Some written) bytes = Some (written ++ bytes)
@@ -118,7 +119,7 @@ PutCause (Err put.OutOfMemory) old new = new ≡ old
 abbrev pub AppendsPrefix : Option (List ℕ) → Option (List ℕ) → List ℕ → Type 0
 AppendsPrefix old new bytes = (n : ℕ) × (n ≤ length bytes) × (new ≡ appended old (take n bytes))
 
--- a sink in memory takes so many bytes of a piece
+-- how many bytes of a piece a sink in memory takes
 abbrev pub piece_of : List ℕ → ℕ
 piece_of bytes = min (length bytes) 64
 

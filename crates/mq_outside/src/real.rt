@@ -1,4 +1,4 @@
-// Files and a sink over the system. They tell nothing of what they hold.
+// Files and a sink over the system. Their contracts say nothing of what they hold.
 ghost use Rattle.std.specs.Prelude.{◌≡◌, ◌<◌, ◌≤◌, ◌++◌, None, length, take, OnOk, IfOk, IfErr, IfSome, IsErr, IsErrOf, MatchResult};
 ghost use Rattle.std.specs.Io.KnownBytes.{Appends, Keeps};
 ghost use Rattle.mq_outside.specs.Outside.{LoadCause, LoadTakes, PutCause, SaveCause, load_limit};
@@ -10,7 +10,7 @@ use std::fs::File;
 use std::io::{ErrorKind, Read, Write};
 use std::{io, rt};
 
-// So many bytes are read at a time.
+// How many bytes are read at a time.
 const CHUNK: usize = 16_384;
 
 // Takes what is left of a file, by reads into the chunk.

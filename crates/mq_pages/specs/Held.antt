@@ -27,7 +27,7 @@ abbrev pub cell_of : Cells → ℕ → Option PageCell
 cell_of [] b = None
 cell_of ((x, cell) ∷ rest) b = if x == b then Some cell else cell_of rest b
 
--- what holds of the cells of a held set, in memory for so many
+-- what holds of the cells of a held set with room for `room` of them, in memory for `capacity`
 pub record IsHeld (cells : Cells) (room capacity : ℕ) : Type 0 where
   pub fits : length cells ≤ room
   pub reserved : room ≤ capacity

@@ -272,7 +272,7 @@ clear-no s end n less some = elim (cases_lt 0 (times n s.posted)) [
   | inr none ↦ ap (λ (b : Bool). are_from end s.posted && b) (are_from-no end n s.failed less (omega (arith, none, some))) ∙ and-false (are_from end s.posted)
 ]
 
--- the records tell what is posted or failed below an end
+-- the records show what is posted or failed below an end
 pub tells_done : (s : PortState) (k : Kept) → Fits s k → TellsDone (is_clear s) s.doorbell k.slots k.passed
 tells_done s k fits = record {
   yes = λ end high done. clear-yes s end (λ n less. elim (cases_lt n k.passed) [

@@ -47,8 +47,8 @@ AreCertain s =
 abbrev pub KeepsBefore : PortState → PortState → Type 0
 KeepsBefore old new = 0 < old.head → bytes_at new.flushed (old.head - 1) ≡ bytes_at old.flushed (old.head - 1)
 
--- What a ring holds beside the transactions that are rung and not done, where `o` is the port as the queue was
--- opened over it.
+-- What a ring holds beside the transactions that are rung and not done, where `o` is the port as the queue
+-- was opened over it.
 pub record IsHeld (o s : PortState) (last : Rung) (ts : List Rung) (whole : Option ℕ) : Type 0 where
   -- what is rung is flushed, and ends at the doorbell
   pub flushed : s.doorbell ≤ s.flushed_end

@@ -40,7 +40,7 @@ abbrev pub left_after : (ℕ → Bool) → List Rung → List Rung
 left_after passes [] = []
 left_after passes (t ∷ ts) = if passes t.end then left_after passes ts else t ∷ ts
 
--- The test of an end below a limit tells whether all entries from a count up to that end are done.
+-- The test of an end up to a limit shows whether all entries from a count up to that end are done.
 pub record TellsDone (passes : ℕ → Bool) (limit : ℕ) (slots : List SlotRecord) (from : ℕ) : Type 0 where
   pub yes : (end : ℕ) → end ≤ limit → AllDone slots from end → passes end ≡ true
   pub no : (end n : ℕ) → end ≤ limit → from ≤ n → n < end → done_at slots n ≡ false → passes end ≡ false

@@ -18,8 +18,9 @@ IsWriteOf bytes tx slot lba = bytes ≡ entry_of record { tx = tx; slot = slot; 
 abbrev pub AreHeld : List (List ℕ) → List Command → Type 0
 AreHeld slots cs = All (λ c. IsWriteOf (bytes_at slots c.count) c.tx (c.count % depth) c.lba) cs
 
--- What was rung and isn't passed, and what waits, stands in the slots: at each count from the end of what is
--- done up to the staged end the entry of a write, and of each command that has not ended with success its own.
+-- What was rung and isn't passed, and what waits, stands in the slots: at each count from the end of what
+-- is done up to the staged end the entry of a write, and of each command that has not ended with success
+-- its own.
 pub record IsWritten (s : PortState) (slots : List SlotRecord) (from to : ℕ) : Type 0 where
   pub entries : (n : ℕ) → from ≤ n → n < to → IsWriteOf (bytes_at s.staged n) (tx_in slots (n % depth)) (n % depth) (lba_of (bytes_at s.staged n))
   pub pending : AreHeld s.staged s.pending

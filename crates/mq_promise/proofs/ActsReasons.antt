@@ -8,7 +8,6 @@ use Rattle.mq_blocks.specs.Geometry.{queues_of, write_limit}
 use Rattle.mq_blocks.specs.declared.geometry.Geometry.{Geometry}
 use Rattle.mq_calls.specs.Acts.{Call, IsOfCall, IsRefused, turned_down, no_room, IsTurnedDown, memory, too_large, before, cut}
 use Rattle.mq_calls.specs.Asking.{IsFirstChange, IsNotAnswered, memory as no_memory, changes}
-use Rattle.mq_calls.specs.Sweeping.{NamesUpto, WasRefused}
 use Rattle.mq_calls.specs.Synchronizing.{IsNotDurable, before as refused_before, after as refused_after, drawn_at}
 use Rattle.mq_calls.specs.declared.answers.CallCause.{CallCause}
 use Rattle.mq_calls.specs.declared.answers.CallCause.TheVariants.{Changes, TooLarge}
@@ -21,6 +20,7 @@ use Rattle.mq_files.specs.Group.{file_group}
 use Rattle.mq_files.specs.declared.entry.FileEntry.{FileEntry}
 use Rattle.mq_journal.specs.Draining.{answer_upto}
 use Rattle.mq_journal.specs.Numbers.{Seat, Shared}
+use Rattle.mq_journal.specs.Sweeping.{NamesUpto, WasRefused}
 use Rattle.mq_legal.specs.Answers.{IsLate, IsLatePort, MayRefuseAsk}
 use Rattle.mq_report.specs.declared.line.Line.{Line}
 use Rattle.mq_report.specs.declared.line.Told.{Told}

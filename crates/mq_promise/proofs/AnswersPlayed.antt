@@ -1,4 +1,4 @@
--- What a session that has played its script has drawn, read and been told.
+-- What a session that has played its script has drawn, read and been answered.
 use Rattle.std.proofs.Common.{◌≡◌, ◌⊎◌, ◌∙◌, ℕ, suc, ◌<◌, ◌≤◌, Bool, true, false, List, [], ◌∷◌, ◌++◌, length, inl, inr, refl, sym, ap, subst, arith}
 use Rattle.std.specs.Prelude.{Some, Result, Ok, Err, slice_get}
 use Rattle.std.specs.List.{AllPairs, Contains}
@@ -30,7 +30,7 @@ use Rattle.mq_turns.specs.declared.rule.Report.TheVariants as report
 use Rattle.mq_promise.proofs.PlayingCame.{Came, drew, saw, passed, came}
 use Rattle.mq_promise.proofs.Pairs.{cons-cases, get-append, get-push, here, in-either, in-left, in-right, none-in, pairs-append, pairs-none, pairs-one, push-cases, same-get, there}
 
--- the drawn entry is that of a group that was told so
+-- the drawn entry is that of a group that was answered so
 pub record DrawnBy (g : Geometry) (session : ℕ) (groups : List Group) (told : List Told) (d : ℕ × FileEntry) : Type 0 where
   pub group : Group
   pub at : slice_get groups d.1.call ≡ Some group

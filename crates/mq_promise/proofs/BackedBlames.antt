@@ -1,4 +1,5 @@
--- Each refusal for a port's cause was reported of a port, and what this port has gained is behind the report.
+-- Each refusal for a port's cause was reported of a port, and what this port has gained is behind the
+-- report.
 use Rattle.std.proofs.Common.{◌≡◌, ◌∙◌, ℕ, Bool, List, [], ◌∷◌, length, map, inl, inr, refl, sym, ap, subst, arith}
 use Rattle.std.specs.Prelude.{Option, Some, Result, Ok, Err, slice_get}
 use Rattle.std.specs.List.{All, Contains}

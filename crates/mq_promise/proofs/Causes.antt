@@ -338,8 +338,8 @@ module _ (x : DriveImage) (scripts : List Script) (o : RunOptions) (r : ImageRun
   of-command (Stopped tx why.Off) b is (inr stands) = absurd is
   of-command Off b is (inr stands) = absurd is
 
-  -- A command has failed for a group only where one was to fail on the port of the cause, and was executed; or a port counts
-  -- no more faults.
+  -- A command has failed for a group only where one was to fail on the port of the cause, and was executed;
+  -- or a port counts no more faults.
   pub command-failed : (t : Told) (f : Refusal) (cause : Cause) → Contains r.answers.items t → t.answer ≡ Err f → f.cause ≡ Drive cause → IsOfCommand cause → HasFailedCommand o r cause ⊎ HaveCountedAll (row_of new)
   command-failed t f cause c bad is of = (let b = backed t f cause c bad is in of-command cause b of b.backs_it.stands)
 
@@ -423,14 +423,14 @@ module _ (x : DriveImage) (scripts : List Script) (o : RunOptions) (r : ImageRun
       undone = λ t tx w c by. (let b = backed t by.0 (Stopped tx w) c by.1 by.2 in stopped-at tx w b.turn b.charged b.backs_it);
     }
 
-    -- where each port counts its faults all of it holds
+    -- where each port counts its faults, all port causes hold
     pub have-port-causes : (HaveCountedAll (row_of new) → ⊥) → HavePortCauses g r.entries.items reached r.answers.items
     have-port-causes none t f cause c bad is = elim (port-cause cause (backed t f cause c bad is)) [
       | inl holds ↦ holds
       | inr untold ↦ absurd (none untold.1)
     ]
 
-    -- so it does without a cut
+    -- the same without a cut
     pub have-uncut : o.cut ≡ None → HavePortCauses g r.entries.items reached r.answers.items
     have-uncut no_cut = have-port-causes (none-full no_cut)
 

@@ -8,7 +8,7 @@ use Rattle.mq_report.specs.declared.line.Last.{Last}
 use Rattle.mq_side.specs.declared.answers.Cause.TheVariants as cause
 use Rattle.mq_promise.specs.Causes.{IsEndOf}
 
--- it tells no more events than the cut allows, or how the run ended
+-- it gives no more events than the cut allows, or reports how the run ended
 pub end-of : (cut limit : Option ℕ) (events : ℕ) (finished : Option (Result ℕ CheckpointRefusal)) (last : Last) → limit ≡ cut → ((l : ℕ) → limit ≡ Some l → events ≤ l) → IsLast cut events finished last → IsEndOf cut last
 end-of (Some k) limit events finished last same most is = (events, is, most k same)
 end-of None limit events (Some (Ok n)) last same most is = subst (IsEndOf None) (sym is) tt

@@ -1,4 +1,5 @@
--- The transaction that a refusal names is a commit among the lines, and no image of the ports at the end reaches it.
+-- The transaction that a refusal names is a commit among the lines, and no image of the ports at the end
+-- reaches it.
 use Rattle.std.proofs.Common.{◌≡◌, ◌∙◌, ℕ, ◌+◌, ◌<◌, ◌≤◌, Bool, true, false, cond, List, [], ◌∷◌, length, map, inl, inr, refl, sym, ap, subst, arith}
 use Rattle.std.specs.Prelude.{Err, Some, reverse, slice_get}
 use Rattle.std.specs.List.{All, Contains}
@@ -201,7 +202,8 @@ module _ {P : Type 0} (G : Ghosts P) (state : P → PortState) (faults : P → L
               absurd (true≢false (sym l.2 ∙ (x.tells.reads l.0 a.there).commit)))
         ]
 
-    -- the transaction that is named by a refusal which was reported of a side is a commit of this side's queue
+    -- the transaction that is named by a refusal which was reported of a side is a commit of this side's
+    -- queue
     pub commit-of : (q : ℕ) (cause : Cause) (n : ℕ) → Contains reports (charge_for (Side q) cause) → NamesTransaction cause n → IsQueueCommit e.entries.items n q
     commit-of q cause n c named =
         let x = side-at q (side-low q cause c) in

@@ -1,4 +1,5 @@
--- What the faults of a port in memory say: its power was off for so many events, and at most one write failed.
+-- What the faults of a port in memory say: its power was off for a number of events, and at most one write
+-- failed.
 use Rattle.std.proofs.Common.{◌≡◌, ◌∙◌, ℕ, zero, suc, ◌+◌, ◌-◌, ◌<◌, ◌≤◌, ◌^◌, ◌++◌, Bool, true, false, cond, List, length, Option, Some, None, is_some, replicate, inl, inr, refl, sym, ap, arith, eq-eqb, eqb-true}
 use Rattle.std.specs.Prelude.{◌&&◌, nat_eq}
 use Rattle.std.specs.List.{Contains}
@@ -41,7 +42,7 @@ alike-self PowerOff = refl
 alike-self (CommandError tx status) = and_from (nat_eq tx tx) (nat_eq status status) (eq-eqb tx tx refl) (eq-eqb status status refl)
 alike-self (HomeError lba status) = and_from (nat_eq lba lba) (nat_eq status status) (eq-eqb lba lba refl) (eq-eqb status status refl)
 
--- ---- the faults of so many refused events and of at most one failed write
+-- ---- the faults of a number of refused events and of at most one failed write
 
 abbrev faults-of : ℕ → Option Failure → List PortFault
 faults-of offs failure = replicate offs PowerOff ++ errors_of failure

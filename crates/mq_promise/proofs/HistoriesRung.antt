@@ -1,5 +1,5 @@
--- The doorbell of a queue after a run has gone on by the entries of its commits, up to one behind which none was answered
--- well.
+-- The doorbell of a queue after a run has gone on by the entries of its commits, up to one behind which
+-- none was answered well.
 use Rattle.std.proofs.Common.{◌≡◌, ◌∙◌, ℕ, zero, cond, suc, ◌+◌, ◌<◌, ◌≤◌, Bool, true, false, List, [], ◌∷◌, ◌++◌, length, get_or, map, inl, inr, refl, sym, ap, subst, arith}
 use Rattle.std.specs.Prelude.{Option, ◌&&◌, nat_eq, reverse, slice_get}
 use Rattle.std.specs.List.{All, Contains}

@@ -1,4 +1,5 @@
--- A transaction that a side shows as failed, or as not rung, has an entry at or above the stored head of its port.
+-- A transaction that a side shows as failed, or as not rung, has an entry at or above the stored head of
+-- its port.
 use Rattle.std.proofs.Common.{◌≡◌, ◌∙◌, ℕ, ◌+◌, ◌<◌, ◌≤◌, eqb, Bool, cond, List, [], ◌∷◌, Option, inl, inr, refl, sym, ap, subst, arith}
 use Rattle.std.proofs.lemmas.Bool.{cases_lt, eq-eqb}
 use Rattle.mq_blocks.specs.Drive.{AreFrom, PortState, staged_end}

@@ -1,4 +1,5 @@
--- A transaction whose entries do not all stand below an image's head is above the number that the image reaches.
+-- A transaction whose entries do not all stand below an image's head is above the number that the image
+-- reaches.
 use Rattle.std.proofs.Common.{◌≡◌, ◌∙◌, ℕ, ◌+◌, ◌-◌, ◌*◌, ◌<◌, ◌≤◌, ◌%◌, true, List, [], ◌∷◌, length, Some, inl, inr, refl, sym, ap, subst, arith}
 use Rattle.std.proofs.lemmas.Bool.{cases_eq, cases_lt, leb-true}
 use Rattle.mq_area.proofs.ReadingDescriptors.{accepted-homes, descriptor_bytes-unique}

@@ -47,7 +47,7 @@ module _ (i : Shown) (chains : ℕ → List Descriptor) where
   said None = []
   said (Some s) = s.0 ∷ []
 
-  -- those of the entries of a queue, so many from a count on
+  -- those of `many` entries of a queue, from a count on
   abbrev rung : (q from many : ℕ) → List ℕ
   rung q from zero = []
   rung q from (suc n) = said (i.entry q (from % depth)) ++ rung q (suc from) n

@@ -1,4 +1,5 @@
--- Lines in the order of a report, with one commit for each entry of a history, are the lines of that history.
+-- Lines in the order of a report, with one commit for each entry of a history, are the lines of that
+-- history.
 use Rattle.std.proofs.Common.{◌≡◌, ◌≢◌, ◌∙◌, ℕ, zero, suc, ◌+◌, ◌<◌, ◌≤◌, true, false, List, [], ◌∷◌, length, take, inl, inr, refl, sym, ap, subst, arith}
 use Rattle.std.specs.Prelude.{Some, slice_get}
 use Rattle.std.specs.List.{AllPairs, Contains}

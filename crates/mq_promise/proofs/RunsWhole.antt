@@ -51,8 +51,8 @@ use Rattle.mq_promise.proofs.Pairs.{each-in, get-in, get-map, in-either, in-get,
 use Rattle.mq_promise.proofs.AnswersPlayed.{Tells, tells}
 use Rattle.mq_promise.proofs.NumbersViews.{Keeps, after-finish, before-finish, drawn-in, in-drawn, in-read}
 
--- the one line is that of an earlier group of the session: its number is not above the other's, and below it where that one
--- is a commit
+-- the one line is that of an earlier group of the session: its number is not above the other's, and below
+-- it where that one is a commit
 abbrev Earlier : Line → Line → Type 0
 Earlier l m = (l.group < m.group) × (l.number ≤ m.number) × (m.commit ≡ true → l.number < m.number)
 
@@ -183,7 +183,7 @@ module _ {P : Type 0} (G : Ghosts P) (state : P → PortState) (faults : P → L
   pub commits-are : AreCommitLines (numbered (suc K.opening.base) es) run.ends.leaves.commits
   commits-are = subst (λ hs. AreCommitLines hs run.ends.leaves.commits) run.ends.run.run.history run.ends.leaves.commits_are
 
-  -- the line of an entry of the history, by what its session was told
+  -- the line of an entry of the history, by what its session was answered
   pub record CommitIn (l : Line) : Type 0 where
     pub place : ℕ
     pub entry : FileEntry
@@ -266,7 +266,7 @@ module _ {P : Type 0} (G : Ghosts P) (state : P → PortState) (faults : P → L
         let place : suc K.opening.base + i ≡ K.opening.base + suc i = omega arith in
         (r.0, Contains-permutation all lines r.0 run.ends.leaves.lines (in-left run.ends.leaves.commits (joined (map (λ t. t.reads) run.tracks)) r.0 r.1), r.2.commit, r.2.number_is ∙ place)
 
-    -- ---- what lines tell of
+    -- ---- what lines report
 
     all-do : AllDo g start es
     all-do = subst (λ (h : Geometry). AllDo h start es) shape-is (log-does values (geometry_of values file_group K) start K.opening.base K.log run.ends.run.end.ok.legal)

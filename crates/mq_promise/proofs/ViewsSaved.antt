@@ -49,7 +49,7 @@ use Rattle.mq_promise.proofs.Recovering.{holds-volume}
 use Rattle.mq_promise.proofs.HistoriesRung.{is-rung}
 use Rattle.mq_promise.proofs.RunsWhole.{legal}
 
--- a run is told as clean only where the checkpoint at the end answered this number
+-- a run is reported as clean only where the checkpoint at the end answered this number
 told-clean : (cut : Option ℕ) (events : ℕ) (finished : Option (Result ℕ CheckpointRefusal)) (last : Last) (n : ℕ) → IsLast cut events finished last → last ≡ Clean n → finished ≡ Some (Ok n)
 told-clean (Some k) events finished last n is told = absurd (cc)
 told-clean None events (Some (Ok m)) last n is told = let same : Clean m ≡ Clean n = sym is ∙ told in cc
@@ -108,7 +108,7 @@ module _ (x : DriveImage) (scripts : List Script) (o : RunOptions) (r : ImageRun
     laid = laid;
   }
 
-  -- ---- what it tells
+  -- ---- what it reports
 
   pub entries-are : end.entries ≡ r.entries
   entries-are = sym (run.entries ∙ has.entries)

@@ -47,7 +47,7 @@ IsOfCommand (FailedHome block status) = Unit {0}
 IsOfCommand (Stopped tx (why.Status status)) = Unit {0}
 IsOfCommand cause = ⊥
 
--- the power was to go off after so many events, and all of them happened
+-- the power was to go off after k events, and all of them happened
 abbrev pub IsPoweredOff : RunOptions → ImageRun → Type 0
 IsPoweredOff o r = (k : ℕ) × (o.cut ≡ Some k) × (r.last ≡ Cut k)
 
@@ -55,8 +55,8 @@ IsPoweredOff o r = (k : ℕ) × (o.cut ≡ Some k) × (r.last ≡ Cut k)
 abbrev pub IsQueueCommit : List Line → (n queue : ℕ) → Type 0
 IsQueueCommit lines n queue = (line : Line) × Contains lines line × (line.commit ≡ true) × (line.number ≡ n) × (line.session ≡ queue)
 
--- The port with this number is that of the queue of the transaction that the cause names. For a home write no port is
--- named.
+-- The port with this number is that of the queue of the transaction that the cause names. For a home write
+-- no port is named.
 abbrev pub IsPortOfCause : List Line → (port : ℕ) → Cause → Type 0
 IsPortOfCause lines port (Failed tx status) = IsQueueCommit lines tx port
 IsPortOfCause lines port (Stopped tx why) = IsQueueCommit lines tx port
@@ -70,12 +70,13 @@ HasFailedCommand o r cause = (f : Failing) × (o.fail ≡ Some f) × (r.failed �
 abbrev pub ports_of : {x : DriveImage} {scripts : List Script} {o : RunOptions} {r : ImageRun} → IsRunOf x scripts o r → List EmuPort
 ports_of run = row_of run.stops.drives.has.end.ports
 
--- One of the ports has as many faults as a count of 64 bits can say. It counts none from there on, so it stands behind any
--- refusal.
+-- One of the ports has as many faults as a count of 64 bits can say. It counts none from there on, so it
+-- stands behind any refusal.
 abbrev pub HaveCountedAll : List EmuPort → Type 0
 HaveCountedAll ports = (p : EmuPort) × Contains ports p × (2 ^ 64 - 1 ≤ length (emu_faults p))
 
--- So it is of each refusal for a drive's cause: where no power was to go off and no command failed, there is none.
+-- What stands behind each refusal for a drive's cause. So where no power was to go off and no command
+-- failed, there is no such refusal, unless a port has as many faults as a count of 64 bits can say.
 pub record AreBacked (o : RunOptions) (r : ImageRun) (ports : List EmuPort) : Type 0 where
   pub power : (t : Told) (cause : Cause) → Contains r.answers.items t → IsRefusedBy t cause → IsOfPower cause → IsPoweredOff o r
   pub command : (t : Told) (cause : Cause) → Contains r.answers.items t → IsRefusedBy t cause → IsOfCommand cause
@@ -86,27 +87,28 @@ RunsAreBacked = (x : DriveImage) (scripts : List Script) (o : RunOptions) (r : I
 
 -- ---- the causes of ports
 
--- Of a refusal for a command that failed no more is told where one of the ports counts no more faults.
+-- The refusal is for a command that failed, and one of the ports counts no more faults: then nothing more
+-- is said of it.
 abbrev pub IsUntold : List EmuPort → Cause → Type 0
 IsUntold ports cause = IsOfCommand cause × HaveCountedAll ports
 
--- What each refusal for a port's cause says of the history holds else, with the number that the new image reaches; and a
--- transaction that had stopped a queue is undone always.
+-- What each refusal for a port's cause says of the history holds, with the number that the new image
+-- reaches, or nothing more is said of it. A transaction that had stopped a queue is undone in any case.
 pub record ArePortCauses (x : DriveImage) (r : ImageRun) (ports : List EmuPort) (reached : ℕ) : Type 0 where
   pub holds : (t : Told) (cause : Cause) → Contains r.answers.items t → IsRefusedBy t cause
       → IsPortCause x.geometry r.entries.items reached cause ⊎ IsUntold ports cause
   pub undone : (t : Told) (tx : ℕ) (w : Why) → Contains r.answers.items t → IsRefusedBy t (Stopped tx w)
       → IsUndone x.geometry r.entries.items reached tx
 
--- What the last line of a run that was stopped at its end says of the history: the transaction that it names is undone, and
--- the block is one of the drive.
+-- What the last line of a run that was stopped at its end says of the history: the transaction that it
+-- names is undone, and the block is one of the drive.
 abbrev pub IsStopOf : Geometry → List Line → (reached : ℕ) → Last → Type 0
 IsStopOf g lines reached (StoppedTx tx) = IsUndone g lines reached tx
 IsStopOf g lines reached (StoppedBlock block) = block < homes_of g
 IsStopOf g lines reached last = Unit {0}
 
--- The last line of a run whose power was to go off after so many events tells how many happened, which are not more. Else it
--- tells the number up to which all stands at home, or what stopped the run at its end.
+-- The last line of a run whose power was to go off after k events gives how many happened, at most k. Else
+-- it gives the number up to which all stands at home, or reports what stopped the run at its end.
 abbrev pub IsEndOf : (cut : Option ℕ) → Last → Type 0
 IsEndOf (Some k) last = (e : ℕ) × (last ≡ Cut e) × (e ≤ k)
 IsEndOf None (Clean n) = Unit {0}

@@ -49,8 +49,8 @@ HavePortCauses g lines reached answers =
     → IsPortCause g lines reached cause
 
 module _ {P : Type 0} (G : Ghosts P) (state : P → PortState) (faults : P → List PortFault) where
-  -- The lines of a run are a legal list from the base and the volume that lay on the home blocks at the opening, where the
-  -- groups can be counted in 32 bits and the scripts write bytes.
+  -- The lines of a run are a legal list from the base and the volume that lay on the home blocks at the
+  -- opening, where the groups can be counted in 32 bits and the scripts write bytes.
   abbrev pub RunsAreLegal : Type 0
   RunsAreLegal =
       (g : Geometry) (ports : Ports P) (s : Standing) (scripts : List Script) (finish : Bool) (e : RunEnd P) (v : Volume)
@@ -60,8 +60,8 @@ module _ {P : Type 0} (G : Ghosts P) (state : P → PortState) (faults : P → L
       → IsLaid g (map_of g s.blocks.items) v
       → IsLegal g scripts v s.base e.entries.items
 
-  -- Of each script the groups of a prefix are answered, each once, with the numbers of their lines; and each line is that
-  -- of an answered group.
+  -- Of each script the groups of a prefix are answered, each once, with the numbers of their lines; and
+  -- each line is that of an answered group.
   abbrev pub RunsAreAnswered : Type 0
   RunsAreAnswered =
       (g : Geometry) (ports : Ports P) (s : Standing) (scripts : List Script) (finish : Bool) (e : RunEnd P)
@@ -90,8 +90,8 @@ module _ {P : Type 0} (G : Ghosts P) (state : P → PortState) (faults : P → L
       → AreImages g (drive_of state e.ports) queues root
       → (r : ℕ) × IsCut g scripts v s.base e.entries.items e.answers.items (shown says g queues root) r
 
-  -- Where the checkpoint at the end answered a number, it is the last one of the lines, and each image of the ports is
-  -- clean, whether the power was cut or not.
+  -- Where the checkpoint at the end answered a number, it is the last one of the lines, and each image of
+  -- the ports is clean, whether the power was cut or not.
   abbrev pub FinishedEndsAreClean : Type 0
   FinishedEndsAreClean =
       (g : Geometry) (ports : Ports P) (s : Standing) (scripts : List Script) (finish : Bool) (e : RunEnd P) (n : ℕ)
@@ -102,8 +102,8 @@ module _ {P : Type 0} (G : Ghosts P) (state : P → PortState) (faults : P → L
       → AreImages g (drive_of state e.ports) queues root
       → (n ≡ newest s.base e.entries.items) × IsClean g (shown says g queues root) n
 
-  -- The doorbell of each queue has gone on by the entries of its commits in a prefix of the lines, behind which none was
-  -- answered well.
+  -- The doorbell of each queue has gone on by the entries of its commits in a prefix of the lines, behind
+  -- which none was answered well.
   abbrev pub DoorbellsAreRung : Type 0
   DoorbellsAreRung =
       (g : Geometry) (ports : Ports P) (s : Standing) (scripts : List Script) (finish : Bool) (e : RunEnd P) (v : Volume) (q : ℕ)
@@ -114,8 +114,8 @@ module _ {P : Type 0} (G : Ghosts P) (state : P → PortState) (faults : P → L
       → q < queues_of g
       → IsRung g scripts v e.entries.items e.answers.items q (bell_of state q ports) (bell_of state q e.ports)
 
-  -- Each refusal has its cause, as far as scripts and history say, where what the ports are behind is given: the image at
-  -- the end reaches some number, and what a cause of a port says of the history holds.
+  -- Each refusal has its cause, as far as scripts and history say, where what the ports are behind is
+  -- given: the image at the end reaches some number, and what a cause of a port says of the history holds.
   abbrev pub RefusalsAreCaused : Type 0
   RefusalsAreCaused =
       (g : Geometry) (ports : Ports P) (s : Standing) (scripts : List Script) (finish : Bool) (e : RunEnd P) (v : Volume) (reached : ℕ)
@@ -126,7 +126,8 @@ module _ {P : Type 0} (G : Ghosts P) (state : P → PortState) (faults : P → L
       → HavePortCauses g e.entries.items reached e.answers.items
       → AreCaused g scripts v s.base e.entries.items reached e.answers.items
 
-  -- Each refusal for a port's cause is backed by a port: what it has gained since the opening is behind the report.
+  -- Each refusal for a port's cause is backed by a port: what it has gained since the opening is behind the
+  -- report.
   abbrev pub RefusalsAreBacked : Type 0
   RefusalsAreBacked =
       (g : Geometry) (ports : Ports P) (s : Standing) (scripts : List Script) (finish : Bool) (e : RunEnd P) (t : Told) (r : Refusal) (cause : Cause)
@@ -137,8 +138,8 @@ module _ {P : Type 0} (G : Ghosts P) (state : P → PortState) (faults : P → L
       → r.cause ≡ Drive cause
       → IsBehindStop g cause (faults_on faults ports) (faults_on faults e.ports)
 
-  -- The transaction that stays undone by a refusal is a commit among the lines, of a queue of the drive, and above the
-  -- number that an image of the ports at the end reaches.
+  -- The transaction that stays undone by a refusal is a commit among the lines, of a queue of the drive,
+  -- and above the number that an image of the ports at the end reaches.
   abbrev pub StoppedTransactionsAreUndone : Type 0
   StoppedTransactionsAreUndone =
       (g : Geometry) (ports : Ports P) (s : Standing) (scripts : List Script) (finish : Bool) (e : RunEnd P) (v : Volume) (reached : ℕ)

@@ -25,15 +25,16 @@ use Rattle.mq_tree.specs.Volume.{Volume}
 
 -- ---- along the machine
 
--- Recovery of a drive leads to this one: it is done at once; or the drive cuts it short, the power goes off, and recovery of
--- an image that this leaves leads there.
+-- Recovery of a drive leads to this one: it is done at once; or the drive cuts it short, the power goes
+-- off, and recovery of an image that this leaves leads there.
 pub data RecoversTo (g : Geometry) (new : DriveState) : DriveState → Type 0 where
   at_once : {old : DriveState} (prefix base : ℕ) → HasRecovered g old prefix base new → RecoversTo g new old
   again : {old : DriveState} (e : RecoverRefusal) (mid start : DriveState) → IsCutShort g e old mid
       → AreImages g mid (map image_of start.queues) (image_of start.root) → RecoversTo g new start → RecoversTo g new old
 
--- The home blocks hold the blocks after the transactions up to this number, each whole, with every acknowledged one among
--- them, and nothing older in their place; and the journal may begin again on the drive.
+-- The home blocks hold the blocks after the transactions up to this number, each whole, with every
+-- acknowledged one among them, and nothing older in their place; and the journal may begin again on the
+-- drive.
 pub record HoldsUpto (s : State) (reached : ℕ) (new : DriveState) : Type 0 where
   pub homes : (x : ℕ) (content : List ℕ)
       → x < homes_of s.geometry
@@ -41,8 +42,9 @@ pub record HoldsUpto (s : State) (reached : ℕ) (new : DriveState) : Type 0 whe
       → (view_over s.geometry new).home x ≡ content
   pub start : IsStartDrive s.geometry new
 
--- A power cut may leave these ports. They are readable, and reach a number of the history at or above each acknowledged
--- one; and whatever recovery of them leads to holds the blocks after the transactions up to this number.
+-- A power cut may leave these ports. They are readable, and reach a number of the history at or above each
+-- acknowledged one; and whatever recovery of them leads to holds the blocks after the transactions up to
+-- this number.
 pub record IsRecovered (s : State) (d : DriveState) : Type 0 where
   pub readable : IsReadableImage s.geometry d
   pub reached : ℕ
@@ -60,9 +62,9 @@ abbrev pub IsRecoveredThroughout : List Event → State → Type 0
 IsRecoveredThroughout [] s = EveryCutIsRecovered s
 IsRecoveredThroughout (v ∷ vs) s = EveryCutIsRecovered s × IsRecoveredThroughout vs (happens journal_entries v s)
 
--- For every interleaving of queue events and every power cut between two of them, recovery leaves on the home blocks the
--- blocks after the first transactions in number order, each whole, with every acknowledged one among them, and no
--- superseded block in their place.
+-- For every interleaving of queue events and every power cut between two of them, recovery leaves on the
+-- home blocks the blocks after the first transactions in number order, each whole, with every acknowledged
+-- one among them, and no superseded block in their place.
 abbrev pub EveryInterleavingIsRecovered : Type 0
 EveryInterleavingIsRecovered =
     (s : State) (events : List Event)

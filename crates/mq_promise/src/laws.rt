@@ -18,8 +18,9 @@ pub fn a_run_is_answered<P: Port>()
     ensures { RunsAreAnswered P.Port P.state P.faults }
 {}
 
-/// Whatever a power cut leaves of the ports after a run is a cut of its history: it reaches a number that is not below
-/// any that `fsync` has answered, and the volume at this number stands there. After a checkpoint at the end it is clean.
+/// Whatever a power cut leaves of the ports after a run is a cut of its history: it reaches a number that
+/// is not below any that `fsync` has answered, and the volume at this number stands there. After a
+/// checkpoint at the end it is clean.
 pub fn a_run_is_cut<P: Port>()
     ensures done { AcknowledgedNumbersAreDone P.Port P.state P.faults }
     ensures cut { EndsAreCuts P.Port P.state P.faults }
@@ -32,8 +33,8 @@ pub fn a_run_is_rung<P: Port>()
     ensures { DoorbellsAreRung P.Port P.state P.faults }
 {}
 
-/// Each refusal of a run has its cause, as far as scripts and history say: what a cause of a port says of the history is
-/// a premise.
+/// Each refusal of a run has its cause, as far as scripts and history say: what a cause of a port says of
+/// the history is a premise.
 pub fn a_refusal_is_caused<P: Port>()
     ensures { RefusalsAreCaused P.Port P.state P.faults }
 {}
@@ -44,8 +45,8 @@ pub fn a_refusal_is_backed<P: Port>()
     ensures { RefusalsAreBacked P.Port P.state P.faults }
 {}
 
-/// A transaction by which a queue was stopped for a refused group is a commit among the lines, and no image of the ports
-/// at the end reaches it.
+/// A transaction by which a queue was stopped for a refused group is a commit among the lines, and no image
+/// of the ports at the end reaches it.
 pub fn a_stopped_transaction_is_undone<P: Port>()
     ensures { StoppedTransactionsAreUndone P.Port P.state P.faults }
 {}
@@ -71,10 +72,10 @@ pub fn a_run_on_an_image_keeps_its_promise()
     ensures { RunsKeepTheirPromise }
 {}
 
-/// Along every run of allowed events of the journal, on any number of queues, before, between and after the events:
-/// whatever a power cut leaves is readable and reaches a number at or above each acknowledged one; and recovery of it,
-/// which may be cut and begun again any number of times, leaves on the home blocks the blocks after the transactions up to
-/// this number, and a drive on which the journal may begin again.
+/// Along every run of allowed events of the journal, on any number of queues, before, between and after the
+/// events: whatever a power cut leaves is readable and reaches a number at or above each acknowledged one;
+/// and recovery of it, which may be cut and begun again any number of times, leaves on the home blocks the
+/// blocks after the transactions up to this number, and a drive on which the journal may begin again.
 pub fn every_interleaving_is_recovered()
     ensures { EveryInterleavingIsRecovered }
 {}

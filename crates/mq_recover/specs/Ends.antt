@@ -12,7 +12,7 @@ chain_at chains q = slice_index_or chains q []
 abbrev pub EndsWith : List Descriptor → ℕ → Type 0
 EndsWith ds number = (d : Descriptor) × (slice_get ds (length ds - 1) ≡ Some d) × (d.number ≡ number)
 
--- the first chains, so many, are empty
+-- the first `count` chains are empty
 abbrev pub AreEmpty : ℕ → List (List Descriptor) → Type 0
 AreEmpty count chains = (q : ℕ) → q < count → chain_at chains q ≡ []
 

@@ -25,7 +25,7 @@ abbrev pub newest_number : ℕ → List Descriptor → ℕ
 newest_number base [] = base
 newest_number base (d ∷ ds) = d.number
 
--- these are chains of queues, in order, of a drive with so many home blocks
+-- these are chains of queues, in order, of a drive with `homes` home blocks
 pub record AreChains (homes base : ℕ) (chains : List (List Descriptor)) : Type 0 where
   pub few : length chains < 2 ^ 32
   pub good : (q : ℕ) → q < length chains → AreGood homes (chain_at chains q)

@@ -40,7 +40,7 @@ IsWithinReach g newest d = unwrap_or newest d.place < (d.place - length d.logged
 abbrev pub copy_place_at : (queue place : ℕ) → CopyPlace
 copy_place_at queue place = record { queue = queue; place = place }
 
--- the queue is one of so many
+-- the queue of the copy, if there is one, is one of `queues`
 abbrev pub IsCopyPlaceOf : ℕ → Option CopyPlace → Type 0
 IsCopyPlaceOf queues None = Unit {0}
 IsCopyPlaceOf queues (Some source) = source.queue < queues
@@ -74,7 +74,7 @@ noted copies queue place (b ∷ bs) = noted (slice_set copies b (Some (copy_plac
 abbrev pub with_transaction : List (Option CopyPlace) → Descriptor → List (Option CopyPlace)
 with_transaction copies d = noted (forgotten copies d.revoked) d.queue (d.place - length d.logged) d.logged
 
--- the same after all of them, on a drive with so many home blocks
+-- the same after all of them, on a drive with `homes` home blocks
 abbrev pub with_all : ℕ → List Descriptor → List (Option CopyPlace)
 with_all homes [] = replicate homes None
 with_all homes (d ∷ ds) = with_transaction (with_all homes ds) d
@@ -93,7 +93,7 @@ abbrev pub AreFalling : (low high : ℕ) → List Descriptor → Type 0
 AreFalling low high [] = Unit {0}
 AreFalling low high (d ∷ ds) = (low < d.number) × (d.number < high) × AreFalling low d.number ds
 
--- the content of the copy that stands there, in journal areas of so many blocks
+-- the content of the copy that stands there, in journal areas of `size` blocks
 abbrev pub content_of : (ℕ → ℕ → List ℕ) → ℕ → Option CopyPlace → Option (List ℕ)
 content_of area size None = None
 content_of area size (Some source) = Some (area source.queue (source.place % size))

@@ -30,8 +30,8 @@ pub struct Copies {
 }
 
 // Goes through the chains of all queues in rising order of numbers, and finds the copies of the
-// transactions right above the base, as far as there is no gap. What comes after a gap is tested
-// all the same.
+// transactions right above the base, as far as there is no gap. What comes after a gap is also
+// tested.
 pub fn place_copies(
     alloc: Global,
     geometry: Geometry,

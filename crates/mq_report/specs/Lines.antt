@@ -45,7 +45,8 @@ abbrev pub answer_of : Result ℕ Refusal → Answer
 answer_of (Ok number) = Good number
 answer_of (Err refusal) = call_answer refusal.cause refusal.drawn
 
--- What is printed of a group's answer: not how the group ends, the limit that it passed or why its queue stopped.
+-- What is printed of a group's answer: not how the group ends, the limit that it passed or why its queue
+-- stopped.
 pub record Printed : Type 0 where
   pub session : ℕ
   pub group : ℕ

@@ -1,5 +1,5 @@
-//! What a run reports: its commits and reads in order, what each group was answered, and how it ended; and the
-//! text of it.
+//! What a run reports: its commits and reads in order, what each group was answered, and how it ended; and
+//! the text of it.
 #![tactic(auto)]
 
 mod answers;

@@ -89,7 +89,8 @@ fn put_last(out: &mut Vec<u8>, last: &Last) -> Result<(), OutOfMemory>
     }
 }
 
-/// The text of a report: the base at the start, the entries with their replies, the answers, and how the run ended.
+/// The text of a report: the base at the start, the entries with their replies, the answers, and how the
+/// run ended.
 pub fn report(
     alloc: Global,
     base: TxNo,

@@ -1,5 +1,5 @@
--- What a chair that holds them has to show before numbers are known done, a home write is known to have ended, or the
--- base is raised.
+-- What a chair that holds them has to show before numbers are known done, a home write is known to have
+-- ended, or the base is raised.
 use Rattle.std.proofs.Common.{◌≡◌, ℕ, ◌+◌, ◌<◌, ◌≤◌, ◌&&◌, ◌⊎◌, ◌-◌, ◌^◌, nat_le, List, [], ◌∷◌, length, refl, sym, subst, inl, inr, arith, eqb}
 use Rattle.std.proofs.lemmas.Bool.{or_cases, or_right, and_parts, leb-true}
 use Rattle.mq_ledger.specs.History.{writes, of_queue, IsAt}

@@ -28,14 +28,14 @@ named_by g (report.Stopped tx None) = Some PowerOff
 named_by g (report.Stopped tx (Some status)) = Some (CommandError tx status)
 named_by g (report.Sent tx) = None
 
--- The kind of a fault. A refusal for a command's error names the least transaction that failed, and comes where any
--- command failed: so errors of commands are of one kind.
+-- The kind of a fault. A refusal for a command's error names the least transaction that failed, and comes
+-- where any command failed: so errors of commands are of one kind.
 abbrev pub kind_of : PortFault → PortFault
 kind_of PowerOff = PowerOff
 kind_of (CommandError tx status) = CommandError 0 0
 kind_of (HomeError lba status) = HomeError lba status
 
--- a test on faults that tells no more than their kind
+-- a test on faults that depends on their kind alone
 abbrev pub of_kind : (PortFault → Bool) → PortFault → Bool
 of_kind f x = f (kind_of x)
 
@@ -54,22 +54,22 @@ abbrev pub WasGained : Option PortFault → List PortFault → List PortFault �
 WasGained None old new = Unit {0}
 WasGained (Some x) old new = IsAdded x old new
 
--- The port has gained a fault of the same kind for each that was charged to it, it has gained each fault that a report
--- names, and it has lost none.
+-- The port has gained a fault of the same kind for each that was charged to it, it has gained each fault
+-- that a report names, and it has lost none.
 pub record AreBacked (g : Geometry) (t : Turn) (cs : List Charge) (old new : List PortFault) : Type 0 where
   pub more : AreMore old new
   pub counts : (f : PortFault → Bool) → count_of (of_kind f) old + charged_to g t (of_kind f) cs ≤ count_of (of_kind f) new
   pub named : Each (λ c. c.port ≡ t → WasGained (named_by g c.report) old new) cs
 
--- What the port has gained in a call stands behind a report of it: one fault more of the kind of the one that is charged
--- to it, if one is, and the one that is named since the opening.
+-- What the port has gained in a call stands behind a report of it: one fault more of the kind of the one
+-- that is charged to it, if one is, and the one that is named since the opening.
 pub record IsBacked (g : Geometry) (r : Report) (first old new : List PortFault) : Type 0 where
   pub more : AreMore old new
   pub kind : (f : PortFault → Bool) → count_of (of_kind f) old + cond (passes (of_kind f) (fault_of g r)) 1 0 ≤ count_of (of_kind f) new
   pub named : WasGained (named_by g r) first new
 
--- So it is until there are as many faults as a count of 64 bits can say: from there on a call that is refused leaves the
--- list of faults as it is.
+-- This holds until there are as many faults as a count of 64 bits can hold: from there on a call that is
+-- refused leaves the list of faults as it is.
 abbrev pub AreCharged : Geometry → Turn → List Charge → List PortFault → List PortFault → Type 0
 AreCharged g t cs old new = (2 ^ 64 - 1 ≤ length new) ⊎ AreBacked g t cs old new
 

@@ -116,8 +116,8 @@ module _ {Q R E : Type 0} (values : Values Q R E) (group : GroupView E) where
       → c.version ≤ front (core_of values group K)
       → IsToBring (core_of values group K) K.ended b c.version c.last_logged c.home_version
 
-  -- A page that was noted when nothing of it waited for a home write below the base, once the base was done, needed no
-  -- home write then.
+  -- A page that was noted when nothing of it waited for a home write below the base, once the base was
+  -- done, needed no home write then.
   abbrev pub NotedPagesWereBrought : Type 0
   NotedPagesWereBrought =
       (base b : ℕ) (K L : DeskState values group) (c : PageCell)
@@ -131,7 +131,7 @@ module _ {Q R E : Type 0} (values : Values Q R E) (group : GroupView E) where
 
   -- ---- what a store of a mark asks
 
-  -- of a claim no more than that its numbers were drawn
+  -- of a claim only that its numbers were drawn
   abbrev pub ClaimsAreRuled : Type 0
   ClaimsAreRuled =
       (c : Claim) (K : DeskState values group)

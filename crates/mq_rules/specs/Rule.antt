@@ -1,5 +1,5 @@
--- What lies on a desk over the ports of a drive, by what is known: cells of home blocks, sides of queues, and the root;
--- and which groups may be drawn.
+-- What lies on a desk over the ports of a drive, by what is known: cells of home blocks, sides of queues,
+-- and the root; and which groups may be drawn.
 use Rattle.std.specs.Prelude.{◌≡◌, ℕ, ◌+◌, ◌<◌, ◌≤◌, nat_eq, Bool, true, false, List, [], ◌∷◌, length, map, slice_index_or, Option, Some, None, if◌then◌else◌}
 use Rattle.mq_blocks.specs.Drive.{PortState, IsBoundKept}
 use Rattle.mq_blocks.specs.Geometry.{zone_of}
@@ -34,14 +34,14 @@ same_port (Some q) (Some r) = nat_eq q r
 same_port None None = true
 same_port _ _ = false
 
--- the turn is that of a port, where there are so many sides
+-- the turn is that of a port, where there are `sides` sides
 abbrev pub IsPortTurn : ℕ → Turn → Type 0
 IsPortTurn sides (Page b) = ⊥
 IsPortTurn sides (Side q) = q < sides
 IsPortTurn sides Root = Unit {0}
 
--- A call on the root's port, which sends no transaction, was refused, for a fault of the port: the power went off, or a
--- home write failed.
+-- A call on the root's port, which sends no transaction, was refused, for a fault of the port: the power
+-- went off, or a home write failed.
 abbrev pub IsOfRoot : Report → Type 0
 IsOfRoot report.Off = Unit {0}
 IsOfRoot (report.Failed tx status) = ⊥
@@ -49,8 +49,8 @@ IsOfRoot (report.FailedHome block status) = Unit {0}
 IsOfRoot (report.Stopped tx status) = ⊥
 IsOfRoot (report.Sent tx) = ⊥
 
--- The report is of the port of a side that there is, or of the root's. That a transaction was rung, has failed, or stays
--- undone, is reported of sides alone.
+-- The report is of the port of a side that there is, or of the root's. That a transaction was rung, has
+-- failed, or stays undone, is reported of sides alone.
 abbrev pub IsOfPort : ℕ → Charge → Type 0
 IsOfPort sides c = IsPortTurn sides c.port × (c.port ≡ Root → IsOfRoot c.report)
 
@@ -116,8 +116,8 @@ module _ {Q R E : Type 0} (values : Values Q R E) (group : GroupView E) where
   entries_of q base [] = []
   entries_of q base (e ∷ es) = if nat_eq (group.tx e).queue q then (base + length es + 1, e) ∷ entries_of q base es else entries_of q base es
 
-  -- groups ran one after another, each on the map that those before it left, the first on the map at the opening, and
-  -- the blocks of each were placed by the rule
+  -- groups ran one after another, each on the map that those before it left, the first on the map at the
+  -- opening, and the blocks of each were placed by the rule
   abbrev pub IsLegalHistory : Geometry → Map → ℕ → List E → Type 0
   IsLegalHistory g start base [] = group.good g start
   IsLegalHistory g start base (e ∷ es) =
@@ -125,7 +125,8 @@ module _ {Q R E : Type 0} (values : Values Q R E) (group : GroupView E) where
       × group.placed g start base (history base es) e
       × IsLegalHistory g start base es
 
-  -- The history is legal, each claim is of a drawn number, the base word is a base, and each report is of a port.
+  -- The history is legal, each claim is of a drawn number, the base word is a base, and each report is of a
+  -- port.
   pub record IsOk (K : DeskState) : Type 0 where
     pub log : LogOk (core_of K)
     pub claims : Each (λ c. c.up_to ≤ newest K) K.claims
@@ -159,7 +160,7 @@ module _ {Q R E : Type 0} (values : Values Q R E) (group : GroupView E) where
     pub last_logged : c.last_logged ≡ last_logged K.opening.base (history_of K) b
     pub home_version : c.home_version ≡ home_number (core_of K) K.ended b
 
-  -- what the side's record speaks of
+  -- what the side's record refers to
   abbrev pub part_of : ℕ → DeskState → Part
   part_of q K = record {
     geometry = geometry_of K;
@@ -172,16 +173,16 @@ module _ {Q R E : Type 0} (values : Values Q R E) (group : GroupView E) where
     reports = reports_of (Side q) K.charges;
   }
 
-  -- The port's entries are those of all transactions of its queue, the groups are stored, and the port has gained the
-  -- faults of what was reported of it.
+  -- The port's entries are those of all transactions of its queue, the groups are stored, and the port has
+  -- gained the faults of what was reported of it.
   pub record IsSide (q : ℕ) (K : DeskState) (w : Q) : Type 0 where
     pub port : SideOk (core_of K) q (own_of q K) (values.port w)
     pub stored : values.stored w ≡ entries_of q K.opening.base K.log
     pub says : values.says (part_of q K) w
     pub charged : AreCharged (geometry_of K) (Side q) K.charges (faults_of K.opening q) (values.faults w)
 
-  -- The flushed and the stored base are bases, not below the base word. The port has the fuse that it had at the opening,
-  -- and the same of its home writes fails.
+  -- The flushed and the stored base are bases, not below the base word. The port has the fuse that it had
+  -- at the opening, and the same of its home writes fails.
   pub record IsRoot (K : DeskState) (r : R) : Type 0 where
     pub says : values.root_says (geometry_of K) r
     pub port : RootStands (core_of K) (values.root r)
@@ -194,8 +195,8 @@ module _ {Q R E : Type 0} (values : Values Q R E) (group : GroupView E) where
   abbrev pub next_tx : E → DeskState → Tx
   next_tx e K = numbered (newest K + 1) (group.tx e)
 
-  -- The journal allows the transaction, the group ran on the map at the newest number, and its blocks are placed by the
-  -- rule.
+  -- The journal allows the transaction, the group ran on the map at the newest number, and its blocks are
+  -- placed by the rule.
   pub record May (e : E) (K : DeskState) : Type 0 where
     pub draw : MayDraw (core_of K) (next_tx e K)
     pub does : group.does (geometry_of K) (map_now K) e

@@ -6,7 +6,7 @@ use Rattle.mq_drive.specs.Steps.{PortFault}
 use Rattle.mq_ledger.specs.declared.tx.Tx.{Tx}
 use Rattle.mq_turns.specs.declared.rule.Report.{Report}
 
--- what a side's own record may speak of, beside its port
+-- what a side's own record may refer to, beside its port
 pub record Part : Type 0 where
   pub geometry : Geometry
   pub queue : ℕ
@@ -22,13 +22,14 @@ pub record Part : Type 0 where
   pub reports : List Report
 
 pub record Values (Q R E : Type 0) : Type 1 where
-  -- of a side: its port, the faults of the port, in no order, the entries that it stores, each with its number, newest
-  -- first, and what the rest of its record says
+  -- of a side: its port, the faults of the port, in no order, the entries that it stores, each with its
+  -- number, newest first, and what the rest of its record says
   pub port : Q → PortState
   pub faults : Q → List PortFault
   pub stored : Q → List (ℕ × E)
   pub says : Part → Q → Type 0
-  -- of the root: its port, the faults of the port, and what the rest of its record says of the shape of the drive
+  -- of the root: its port, the faults of the port, and what the rest of its record says of the shape of the
+  -- drive
   pub root : R → PortState
   pub root_faults : R → List PortFault
   pub root_says : Geometry → R → Type 0

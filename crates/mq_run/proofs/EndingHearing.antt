@@ -20,7 +20,7 @@ module _ {P : Type 0} {G : Ghosts P} where
   below_later m n v le h =
       (let l = h.0 in omega arith, each_map (λ (d : ℕ × FileEntry). d.0 ≤ m) (λ (d : ℕ × FileEntry). d.0 ≤ n) (λ d q. omega arith) v.drawn h.1)
 
-  -- one more of the others has told
+  -- one more of the others has passed on what it knows
   pub heard_next : (vs : List (Seat P FileEntry G)) (i m n : ℕ) (v : Seat P FileEntry G) → slice_get vs i ≡ Some v → m ≤ n → Each (λ w. Below m w) (take i vs) → Below n v → Each (λ w. Below n w) (take (i + 1) vs)
   heard_next vs i m n v at le h this =
       subst (λ (ws : List (Seat P FileEntry G)). Each (λ w. Below n w) ws) (sym (take_next vs i v at))

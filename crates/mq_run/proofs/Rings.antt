@@ -41,7 +41,7 @@ use Rattle.mq_run.specs.Runs.{HasRunScripts, Track}
 use Rattle.mq_run.specs.declared.end.RunEnd.{RunEnd}
 use Rattle.mq_run.proofs.Parts.{partner}
 
--- ---- numbers that rise are told by how often each stands among them
+-- ---- numbers that rise are known by how often each stands among them
 
 abbrev one : ℕ → ℕ → ℕ
 one n m = cond {A = ℕ} (nat_eq m n) 1 0

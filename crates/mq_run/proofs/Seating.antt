@@ -1,4 +1,4 @@
--- A session that has made no call, with room for what it is told.
+-- A session that has made no call, with room for what it is answered.
 use Rattle.std.proofs.Common.{◌≡◌, ℕ, List, length, sym, ap, subst, arith}
 use Rattle.std.specs.Prelude.{vec_capacity}
 use Rattle.std.specs.declared.vec.Vec.{Vec}

@@ -19,8 +19,8 @@ IsAskedFor false None = Unit {0}
 IsAskedFor false (Some answer) = ⊥
 
 module _ {P : Type 0} {G : Ghosts P} where
-  -- It knows of each number that one of the others had seen or drawn, and of no lesser one than before; nothing else of it
-  -- has changed.
+  -- It knows of each number that one of the others had seen or drawn, and of no lesser one than before;
+  -- nothing else of it has changed.
   pub record HasHeard (others : List (Seat P FileEntry G)) (old new : Seat P FileEntry G) : Type 0 where
     pub is : new ≡ record old { seen = new.seen }
     pub later : old.seen ≤ new.seen

@@ -33,7 +33,7 @@ call_at session k group = call_by session k (is_durable group.end) group.request
 
 -- ---- answers
 
--- what is told of a group that was answered so
+-- what is reported of a group that was answered so
 abbrev pub answered : Result Answer Refusal → Result ℕ Refusal
 answered (Ok a) = Ok a.at
 answered (Err r) = Err r
@@ -52,7 +52,7 @@ pub record IsShort (groups : List Group) : Type 0 where
   pub few : length groups < 2 ^ 32
   pub each : (i : ℕ) (group : Group) → slice_get groups i ≡ Some group → length group.requests < 2 ^ 32
 
--- Nothing was told yet, and there is room for what is told of each group, and for its line.
+-- Nothing was reported yet, and there is room for what is reported of each group, and for its line.
 pub record HasRoom {Z : Type 0} (groups : List Group) (told : Vec Told Z) (reads : Vec Line Z) : Type 0 where
   pub told_none : told.items ≡ []
   pub told_room : length groups ≤ vec_capacity told
@@ -61,7 +61,8 @@ pub record HasRoom {Z : Type 0} (groups : List Group) (told : Vec Told Z) (reads
 
 -- ---- one group
 
--- A group that asks is refused with `Changes` exactly where a request of it may change the tree, by the first one.
+-- A group that asks is refused with `Changes` exactly where a request of it may change the tree, by the
+-- first one.
 abbrev pub TellsOfChanges : End → List Request → Result ℕ Refusal → Type 0
 TellsOfChanges Fsync requests answer = Unit {0}
 TellsOfChanges Fatomic requests answer = Unit {0}
@@ -97,7 +98,8 @@ module _ {P : Type 0} {G : Ghosts P} (state : P → PortState) (faults : P → L
   IsNotDone g Fatomic c r old new = IsRefused state faults g c old new r.cause r.drawn
   IsNotDone g Ask c r old new = IsNotAnswered c.requests old new r.cause r.drawn
 
-  -- What a group came to, and the line that it has if it was read: the line of a commit is made of the history.
+  -- What a group came to, and the line that it has if it was read: the line of a commit is made of the
+  -- history.
   abbrev pub Comes : Geometry → (session k : ℕ) → Group → Result ℕ Refusal → List Line → Seat P FileEntry G → Seat P FileEntry G → Type 0
   Comes g session k group (Ok at) [] old new = (replies : List Reply) × IsDone g group.end (call_at session k group) at true replies old new
   Comes g session k group (Ok at) (l ∷ []) old new =
@@ -106,7 +108,7 @@ module _ {P : Type 0} {G : Ghosts P} (state : P → PortState) (faults : P → L
   Comes g session k group (Err r) [] old new = IsNotDone g group.end (call_at session k group) r old new
   Comes g session k group (Err r) (l ∷ ls) old new = ⊥
 
-  -- what is told of it
+  -- what is reported of it
   pub record IsTold (g : Geometry) (session k : ℕ) (group : Group) (t : Told) (lines : List Line) (old new : Seat P FileEntry G) : Type 0 where
     pub session_is : t.session ≡ session
     pub group_is : t.group ≡ k

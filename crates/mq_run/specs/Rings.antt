@@ -24,15 +24,15 @@ use Rattle.mq_tie.specs.Runs.{history_of}
 abbrev pub is_commit_of : ℕ → Line → Bool
 is_commit_of q l = l.commit && nat_eq l.session q
 
--- The transactions, newest first, are those of the commits of a session: each line of one has the number of one, in the order
--- of the report, and there are no more.
+-- The transactions, newest first, are those of the commits of a session: each line of one has the number of
+-- one, in the order of the report, and there are no more.
 abbrev pub AreCommitsOf : ℕ → List Line → List Tx → Type 0
 AreCommitsOf q lines txs = map (λ l. l.number) (filter (is_commit_of q) lines) ≡ map (λ t. t.number) (reverse txs)
 
 module _ {P : Type 0} (state : P → PortState) (faults : P → List PortFault) where
-  -- In a run over these ports with this history, the port of a queue rang once for each commit of the report that its session
-  -- sent. Home writes aside, at most 2n + 4 events happened on it for each commit of n entries, and one for each of its
-  -- faults, unless these are as many as a count of 64 bits can say.
+  -- In a run over these ports with this history, the port of a queue rang once for each commit of the
+  -- report that its session sent. Home writes aside, at most 2n + 4 events happened on it for each commit
+  -- of n entries, and one for each of its faults, unless these are as many as a count of 64 bits can say.
   pub record HasRungOnceEach (q : ℕ) (ports : Ports P) (history : List (ℕ × FileEntry)) (e : RunEnd P) : Type 0 where
     pub commits : AreCommitsOf q e.entries.items (txs_in file_group q history)
     pub rang : RangOnceEach (txs_in file_group q history) (faults_at (faults_on faults e.ports) q) (port_at (drive_of state ports).queues q) (port_at (drive_of state e.ports).queues q)

@@ -24,7 +24,7 @@ use Rattle.mq_run.specs.Lines.{AreCommitLines, IsNotAfter, joined}
 use Rattle.mq_run.specs.Playing.{HasPlayed}
 use Rattle.mq_run.specs.declared.end.RunEnd.{RunEnd}
 
--- what a session was told, the lines of what it read, and what it knew once its script was played
+-- what a session was answered, the lines of what it read, and what it knew once its script was played
 pub record Track (P : Type 0) (G : Ghosts P) : Type 0 where
   pub told : List Told
   pub reads : List Line
@@ -34,8 +34,8 @@ module _ {P : Type 0} {G : Ghosts P} where
   abbrev pub track : List Told → List Line → Seat P FileEntry G → Track P G
   track told reads view = record { told = told; reads = reads; view = view }
 
-  -- What is left of a closed desk and is reported of it, where the sessions were told this and these are the lines of what
-  -- they read.
+  -- What is left of a closed desk and is reported of it, where the sessions were answered this and these
+  -- are the lines of what they read.
   pub record Leaves (end : Ended P FileEntry G) (told : List (List Told)) (reads : List (List Line)) (e : RunEnd P) : Type 0 where
     pub queues : e.ports.queues.items ≡ ports_of end
     pub root : e.ports.root ≡ end.root.port
@@ -49,8 +49,8 @@ module _ {P : Type 0} {G : Ghosts P} where
     pub order : AllPairs IsNotAfter e.entries.items
 
 module _ {P : Type 0} {G : Ghosts P} (state : P → PortState) (faults : P → List PortFault) where
-  -- Where it was asked for, the first session heard of what the others knew, and made a checkpoint. Then the desk was
-  -- closed: the ports, the cells and the history are those that it had at the end.
+  -- Where it was asked for, the first session heard of what the others knew, and made a checkpoint. Then
+  -- the desk was closed: the ports, the cells and the history are those that it had at the end.
   pub record EndsSo (opening : Start P FileEntry G) (tracks : List (Track P G)) (finish : Bool) (e : RunEnd P) : Type 0 where
     pub left : List (Seat P FileEntry G)
     pub finished : HasFinished state faults finish e.finished (map (λ t. t.view) tracks) left
@@ -59,7 +59,8 @@ module _ {P : Type 0} {G : Ghosts P} (state : P → PortState) (faults : P → L
     pub leaves : Leaves end (map (λ t. t.told) tracks) (map (λ t. t.reads) tracks) e
 
 module _ {P : Type 0} (G : Ghosts P) (state : P → PortState) (faults : P → List PortFault) where
-  -- Each session has played its script, from the opening of a desk over these ports; and then the run ended.
+  -- Each session has played its script, from the opening of a desk over these ports; and then the run
+  -- ended.
   pub record HasRunScripts (g : Geometry) (ports : Ports P) (s : Standing) (scripts : List Script) (finish : Bool) (e : RunEnd P) : Type 0 where
     pub opening : Start P FileEntry G
     pub opened : IsOpenedOver state faults g ports s opening

@@ -1,4 +1,4 @@
--- The room that a session has for what it is told.
+-- The room that a session has for what it is answered.
 use Rattle.std.specs.Prelude.{ℕ, List, [], vec_capacity}
 use Rattle.std.specs.declared.alloc.Global.{Global}
 use Rattle.std.specs.declared.vec.Vec.{Vec}
@@ -15,6 +15,6 @@ pub record Room : Type 0 where
 abbrev pub room_of : Vec Told Global → Vec Line Global → Room
 room_of told reads = record { told = told.items; reads = reads.items; told_room = vec_capacity told; reads_room = vec_capacity reads }
 
--- they are empty, and have room for so many groups
+-- they are empty, and have room for `groups` groups
 abbrev pub room_for : (groups : ℕ) → Room
 room_for groups = record { told = []; reads = []; told_room = groups; reads_room = groups }

@@ -22,7 +22,7 @@ use mq_turns::Machine;
 use std::alloc::Global;
 use std::sync::Wait;
 
-// Every other session tells the first one which numbers it knows.
+// Each other session passes the numbers that it knows to the first one.
 fn tell_first<P: Port + Drop>(files: &Mqfs<P>, first: &mut Session<P>, others: &mut [Session<P>])
     requires first { AtDesk files.now.desk first.old.chair
         × IsReady files.now.geometry first.old.queue first.old.calls first.old.held (view first.old.chair) }
@@ -122,7 +122,7 @@ pub(crate) fn report_end<P: Port + Drop>(
     })
 }
 
-// What the sessions of a run leave: themselves, what each was told, and the lines of what each read.
+// What the sessions of a run leave: themselves, what each was answered, and the lines of what each read.
 #[derive(Drop)]
 struct Played<P: Port + Drop>
 where

@@ -23,9 +23,9 @@ pub fn a_stopped_run_is_backed<P: Port>()
     ensures { StopsAreBacked P.Port P.state P.faults }
 {}
 
-/// Each port of a queue that a run gives back has rung once for each commit that its session sent. Home writes aside, at
-/// most 2n + 4 events happened on it for each commit of n entries that the run reports of the session, and one for each fault
-/// of the port, unless these are as many as a count of 64 bits can say.
+/// Each port of a queue that a run gives back has rung once for each commit that its session sent. Home
+/// writes aside, at most 2n + 4 events happened on it for each commit of n entries that the run reports of
+/// the session, and one for each fault of the port, unless these are as many as a count of 64 bits can say.
 pub fn a_run_rings_once_for_each_commit<P: Port>()
     ensures { RunsRingOnce P.Port P.state P.faults }
 {}

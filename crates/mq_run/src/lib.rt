@@ -1,5 +1,5 @@
-//! Scripts run on the sessions of a file system, each on a thread of its own, over the ports of a drive that was
-//! recovered.
+//! Scripts run on the sessions of a file system, each on a thread of its own, over the ports of a drive
+//! that was recovered.
 #![tactic(auto)]
 
 mod end;

@@ -1,4 +1,4 @@
-// What a run reports, out of its history and of what its sessions were told and read.
+// What a run reports, out of its history and of what its sessions were answered and read.
 ghost use Rattle.std.specs.Prelude.{◌≡◌, ◌++◌, IfOk, map};
 ghost use Rattle.std.specs.List.{AllPairs};
 ghost use Rattle.std.specs.List.Sorted.{IsPermutation};

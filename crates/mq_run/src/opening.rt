@@ -1,4 +1,4 @@
-// The sessions of a run, each with room for what it is told.
+// The sessions of a run, each with room for what it is answered.
 ghost use Rattle.std.specs.Prelude.{◌≡◌, ◌≤◌, ◌^◌, ℕ, [], Some, IfOk, IfErr, length, map, slice_get, vec_len, vec_capacity};
 ghost use Rattle.mq_blocks.specs.Geometry.{queues_of};
 ghost use Rattle.mq_calls.specs.Opening.{IsNewSession, IsOpenedOver, MayOpen};

@@ -60,7 +60,7 @@ fn stops(cause: CallCause) -> bool
     }
 }
 
-// What is told of a group that was answered so.
+// What is reported of a group that was answered so.
 fn tell(session: QueueNo, index: u32, group: &Group, answer: &Result<Answer, Refusal>) -> Told
     ensures { result ≡ told_of session index group.now.end answer.now }
 {

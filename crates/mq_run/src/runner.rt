@@ -1,4 +1,4 @@
-// A session with what it is told while it plays its script.
+// A session with what it is answered while it plays its script.
 use mq_calls::User;
 use mq_report::{Line, Told};
 use mq_turns::Machine;

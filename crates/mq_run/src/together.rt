@@ -140,8 +140,8 @@ fn play_each<
     for_each_mut(rt, runners, threads, &part);
 }
 
-/// Each session plays the script of its own number, on a thread of its own where one can be made. It returns once
-/// all have played.
+/// Each session plays the script of its own number, on a thread of its own where one can be made. It
+/// returns once all have played.
 pub(crate) fn play_all<P: Port + Drop + Send, R: Threads + Wait + Sync, G: Gate + Sync>(
     rt: &R,
     alloc: Global,

@@ -41,7 +41,7 @@ groups_push groups g (Ok t) = ap Ok (sym (append_assoc groups (g ∷ []) t))
 groups_push groups g (Err e) = refl
 
 module _ (lines : List (Bor (List ℕ))) (whole : Result (List Group) Refused) where
-  -- so many lines are read, into these groups and these requests
+  -- the first i lines are read, into these groups and these requests
   abbrev pub ReadSo : ℕ → List Group → List Request → Type 0
   ReadSo i groups requests = with_groups groups (groups_in i requests (answers (drop i lines))) ≡ whole
 

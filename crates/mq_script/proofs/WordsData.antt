@@ -115,7 +115,7 @@ quoted_open [] h = refl
 quoted_open (b ∷ []) h = last_step b (is_quote b) refl h
 quoted_open (b ∷ c ∷ text) h = later_quote b c text (is_quote b) refl (λ f. quoted_open (c ∷ text) (λ front e. h (b ∷ front) (ap (λ t. b ∷ t) e)))
 
--- the same of what `strip_suffix` tells
+-- the same of what `strip_suffix` returns
 
 pub open_text : (text p : List ℕ) → p ≡ 34 ∷ [] → bytes_eq (drop (length text - length p) text) p ≡ false → quoted_in text ≡ None
 open_text text p is none = quoted_open text (λ front e. strip_suffix_is Decides-eqb text p None none front (e ∙ ap (λ q. front ++ q) (sym is)))

@@ -16,8 +16,8 @@ abbrev pub made : {A B C : Type 0} → (A → B) → Result A C → Result B C
 made f (Ok x) = Ok (f x)
 made f (Err c) = Err c
 
--- The answer for a line agrees with this one: a line that is read gives the same value, and one that is refused
--- has the same cause. When memory runs out, nothing is told of the line.
+-- The answer for a line agrees with this one: a line that is read gives the same value, and one that is
+-- refused has the same cause. Out of memory says nothing of the line.
 abbrev pub Agrees : {A : Type 0} → Result A ScriptCause → Result A LineRefusal → Type 0
 Agrees answer (Ok x) = answer ≡ Ok x
 Agrees answer (Err (Cause cause)) = answer ≡ Err cause

@@ -23,7 +23,7 @@ abbrev pub ended_at : ℕ → List Request → Result (List Group) Refused
 ended_at line [] = Ok []
 ended_at line (r ∷ requests) = Err (record { line = line; cause = Open })
 
--- The groups of these lines, which follow so many others; the last of those ask for these requests
+-- The groups of these lines, which follow `before` others; the last of those ask for these requests
 -- in a group that has not ended yet.
 abbrev pub groups_in : ℕ → List Request → List (Answer Line) → Result (List Group) Refused
 groups_in before requests [] = ended_at before requests

@@ -85,7 +85,7 @@ pairs_in [] = Some []
 pairs_in (high ∷ []) = None
 pairs_in (high ∷ low ∷ digits) = onto (byte_in high low) (pairs_in digits)
 
--- so many bytes of this value
+-- the given number of bytes of this value
 abbrev pub filled : Option ℕ → Option ℕ → Option (List ℕ)
 filled None count = None
 filled (Some b) None = None

@@ -22,7 +22,7 @@ directory_of thread = (codes "t" ++ decimal thread) ∷ []
 abbrev pub file_of : (thread file : ℕ) → List (List ℕ)
 file_of thread file = (codes "t" ++ decimal thread) ∷ (codes "f" ++ decimal file) ∷ []
 
--- so many bytes of this value, at this offset of a file that may be new
+-- `count` bytes of this value, at this offset of a file that may be new
 abbrev pub writing : (path : List (List ℕ)) → (offset count byte : ℕ) → List Request
 writing path offset count byte = Create path ∷ Write path offset (replicate count byte) ∷ []
 
@@ -38,7 +38,7 @@ requests_of thread word =
 abbrev pub end_of : (number groups : ℕ) → End
 end_of number groups = if (number % 4 == 0) || (number == groups) then Fsync else Fatomic
 
--- so many groups, from this number on
+-- `left` groups, from this number on
 abbrev pub groups_from : (left thread number groups : ℕ) → Lcg → List Group
 groups_from zero thread number groups rng = []
 groups_from (suc left) thread number groups rng =
@@ -47,7 +47,7 @@ groups_from (suc left) thread number groups rng =
 abbrev pub script_of : (seed thread groups : ℕ) → Script
 script_of seed thread groups = record { groups = record { requests = Mkdir (directory_of thread) ∷ []; end = Fsync } ∷ groups_from groups thread 1 groups (generator_of seed thread) }
 
--- so many scripts, from this thread on
+-- `left` scripts, from this thread on
 abbrev pub scripts_from : (left seed thread groups : ℕ) → List Script
 scripts_from zero seed thread groups = []
 scripts_from (suc left) seed thread groups = script_of seed thread groups ∷ scripts_from left seed (thread + 1) groups

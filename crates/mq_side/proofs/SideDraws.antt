@@ -145,7 +145,8 @@ opened k q s fresh geometry queue entries bell side = record {
 
 -- ---- what is known changes otherwise
 
--- a side is one for whatever is known of the journal, if its port's facts are: nothing else speaks of the rest
+-- a side is one for whatever is known of the journal, if its port's facts are: nothing else depends on the
+-- rest
 pub side_along : (k l : KnownJournal) (q : ℕ) (us : List Tx) (s : SideState) → l.geometry ≡ k.geometry → l.entries ≡ k.entries → l.from q ≡ k.from q → SideOk l q us s.port → IsQueueSide k q us s → IsQueueSide l q us s
 side_along k l q us s geometry entries from side is = record {
   geometry = is.geometry ∙ sym geometry;

@@ -62,7 +62,7 @@ pub done_up : (from : ℕ) (us : List Tx) (low high n : ℕ) → low ≤ high �
 done_up from us low high n up (inl none) = inl none
 done_up from us low high n up (inr d) = inr (record { t = d.t; ts = d.ts; at = d.at; number = d.number; below = (let b = d.below in omega (arith, b, up)) })
 
--- so it does where another transaction is drawn
+-- the same where another transaction is drawn
 pub done_later : (from : ℕ) (t : Tx) (us : List Tx) (head n : ℕ) → IsDoneOf from us head n → IsDoneOf from (t ∷ us) head n
 done_later from t us head n (inl none) = inl none
 done_later from t us head n (inr d) = inr (record { t = d.t; ts = d.ts; at = inr d.at; number = d.number; below = d.below })

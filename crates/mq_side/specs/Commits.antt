@@ -13,7 +13,8 @@ use Rattle.mq_pages.specs.declared.page.Write.{Write}
 use Rattle.mq_pmr.specs.Runs.{Items}
 use Rattle.mq_revoke.specs.Placed.{Placed}
 
--- how many blocks a descriptor takes in the journal area, each with an entry: every transaction's takes as many
+-- how many blocks a descriptor takes in the journal area, each with an entry: every transaction's takes as
+-- many
 abbrev pub descriptor_size : ℕ
 descriptor_size = descriptor_blocks (record { number = 0; queue = 0; logged = []; direct = []; revoked = []; freed = [] })
 
@@ -25,8 +26,8 @@ written_in blocks [] = []
 written_in blocks (w ∷ ws) =
     if is_among w.block blocks then (w.block, w.content) ∷ written_in blocks ws else written_in blocks ws
 
--- The plan says of each of these blocks, in rising order, whether it is logged or direct, and names no other;
--- it revokes direct ones alone.
+-- The plan says of each of these blocks, in rising order, whether it is logged or direct, and names no
+-- other; it revokes direct ones alone.
 pub record IsPlanOf (homes : ℕ) (blocks : List ℕ) (plan : Placed) : Type 0 where
   pub rising : AreRising 0 homes blocks
   pub logged : AreRising 0 homes plan.logged

@@ -16,16 +16,17 @@ most_events us = 2 * total us + 4 * length us
 abbrev pub unless_same : ℕ → ℕ → ℕ → ℕ
 unless_same a b n = if nat_eq a b then 0 else n
 
--- The events that are still to come: two for each entry that isn't staged, and one for each that is staged and
--- not ended; flush, ring and two of the head for a transaction that isn't rung; two of the head for each that
--- is rung and not passed; and two where the head is behind what is passed.
+-- The events that are still to come: two for each entry that isn't staged, and one for each that is staged
+-- and not ended; flush, ring and two of the head for a transaction that isn't rung; two of the head for
+-- each that is rung and not passed; and two where the head is behind what is passed.
 abbrev pub ahead : ℕ → SideState → ℕ
 ahead end s =
     (2 * (end - staged_end s.port) + (length s.port.pending + length s.port.posted))
     + (unless_same s.port.doorbell end 4 + (2 * length s.rung + unless_same s.port.head s.passed.end 2))
 
--- With those that are still to come, at most so many events have happened as the transactions and the faults
--- allow, from these at the start on. So it is until there are as many faults as a count of 64 bits can say.
+-- The events that have happened, with those that are still to come, are at most those at the start and as
+-- many as the transactions and the faults allow. This holds until there are as many faults as a count of
+-- 64 bits can hold.
 abbrev pub IsCounted : ℕ → KnownJournal → ℕ → List Tx → SideState → Type 0
 IsCounted first k q us s =
     (2 ^ 64 - 1 ≤ length s.faults)

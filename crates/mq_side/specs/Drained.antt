@@ -21,8 +21,8 @@ use Rattle.mq_side.specs.declared.answers.Cause.TheVariants as cause
 abbrev pub Failures : Type 0
 Failures = List (ℕ × ℕ)
 
--- what is kept once a command of this transaction has failed: the least transaction of those that failed, with
--- the status that was first taken of it
+-- what is kept once a command of this transaction has failed: the least transaction of those that failed,
+-- with the status that was first taken of it
 abbrev pub kept_with : Option (ℕ × Why) → ℕ → ℕ → Option (ℕ × Why)
 kept_with None tx status = Some (tx, Status status)
 kept_with (Some (n, why.Off)) tx status = Some (tx, Status status)

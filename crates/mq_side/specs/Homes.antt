@@ -11,7 +11,8 @@ use Rattle.mq_ledger.specs.declared.tx.Tx.{Tx}
 use Rattle.mq_core.specs.Homes.{IsLoggedLast}
 use Rattle.mq_side.specs.Side.{SideState, IsQueueSide}
 
--- This is a home block of the queue's zone, or of the metadata region, and nobody needs another content of it.
+-- This is a home block of the queue's zone, or of the metadata region, and nobody needs another content of
+-- it.
 pub record MayGoHome (k : KnownJournal) (z : Option ℕ) (x lba : ℕ) : Type 0 where
   pub block : x < homes_of k.geometry
   pub zone : zone_of k.geometry x ≡ z

@@ -120,7 +120,7 @@ Claiming =
     → ((t : Tx) (ts : List Tx) → IsAt t ts k.history → t.queue ≡ q → done t ts ≡ true → (k.done t ts ≡ true) ⊎ (t.number ≤ s.done))
     → IsQueueSide (record k { done = done }) q us s
 
--- Whatever else changes, only what holds of the port speaks of it.
+-- Whatever else changes, only what holds of the port depends on it.
 abbrev pub Changing : Type 0
 Changing =
     (k l : KnownJournal) (q : ℕ) (us : List Tx) (s : SideState) → l.geometry ≡ k.geometry

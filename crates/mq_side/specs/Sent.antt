@@ -33,8 +33,8 @@ AreItems g q from us tx c (i ∷ is) = IsItem g q tx (item_at from us c) i (is_l
 
 -- ---- a send
 
--- The commit's transaction was drawn last on the queue, whose entries begin at a count; nothing of it is staged, and
--- all before it is rung.
+-- The commit's transaction was drawn last on the queue, whose entries begin at a count; nothing of it is
+-- staged, and all before it is rung.
 pub record IsReadyFrom (from : ℕ) (us : List Tx) (s : SideState) (n : NumberedCommit) : Type 0 where
   pub t : Tx
   pub ts : List Tx

@@ -17,7 +17,7 @@ use Rattle.mq_side.specs.declared.answers.Why.{Why}
 use Rattle.mq_side.specs.declared.answers.Why.TheVariants.{Status, Off}
 use Rattle.mq_side.specs.declared.side.QueueSide.{QueueSide}
 
--- A side as its calls speak of it, apart from the entries that it stores.
+-- A side as the contracts of its calls see it, apart from the entries that it stores.
 pub record SideState : Type 0 where
   pub geometry : Geometry
   pub queue : ℕ
@@ -92,8 +92,8 @@ abbrev pub NewestBegins : ℕ → List Tx → ℕ → ℕ → Type 0
 NewestBegins from [] count n = ⊥
 NewestBegins from (t ∷ ts) count n = (t.number ≡ n) × (count ≡ end_of from ts)
 
--- A send of the newest transaction was cut, and all before it are rung; or a command of the transaction, which
--- is rung, failed, and none of a lower one.
+-- A send of the newest transaction was cut, and all before it are rung; or a command of the transaction,
+-- which is rung, failed, and none of a lower one.
 abbrev pub IsKeptBy : ℕ → List Tx → List Command → ℕ → ℕ → Why → Type 0
 IsKeptBy from us failed doorbell n Off = (failed ≡ []) × NewestBegins from us doorbell n
 IsKeptBy from us failed doorbell n (Status s) =

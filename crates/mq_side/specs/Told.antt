@@ -19,7 +19,7 @@ pub record IsToldSince (first faults : List PortFault) (kept : Option (ℕ × Wh
   pub more : AreMore first faults
   pub added : IsKeptAmong first faults kept
 
--- So it is until there are as many faults as a count of 64 bits can say.
+-- This holds until there are as many faults as a count of 64 bits can hold.
 abbrev pub IsTold : List PortFault → List PortFault → Option (ℕ × Why) → Type 0
 IsTold first faults kept = (2 ^ 64 - 1 ≤ length faults) ⊎ IsToldSince first faults kept
 

@@ -35,9 +35,9 @@ pub fn a_claim_keeps_sides()
     ensures changed { Changing }
 {}
 
-/// A drain that ends without a fault has reached the last transaction that was drawn on the queue, where all of
-/// them were rung. One that ends with a failure has reached each transaction before the one that it names. What
-/// it has reached stands below the flushed head.
+/// A drain that ends without a fault has reached the last transaction that was drawn on the queue, where
+/// all of them were rung. One that ends with a failure has reached each transaction before the one that it
+/// names. What it has reached stands below the flushed head.
 pub fn a_drain_reaches()
     ensures last { Reaching }
     ensures before { DoneBefore }

@@ -10,18 +10,20 @@ use std::alloc::Global;
 use std::sync::Wait;
 use std::thread::Threads;
 
-// The first session makes a directory and a file in it. This writes the home blocks 1, 3, 4, 64 and 65 into the journal
-// area, and the file's block, which is 66, home.
+// The first session makes a directory and a file in it. This writes the home blocks 1, 3, 4, 64 and 65 into
+// the journal area, and the file's block, which is 66, home.
 const SMALL: &str = "mkdir /a\ncreate /a/f\nwrite /a/f 0 \"hi\"\nfsync\n";
 
-// The same with a file of 900 blocks, in zones of 512. The blocks of the file that lie in the zone of queue 0, beginning
-// with 66, are written home, and the other ones, which lie in that of queue 1, into the journal area.
+// The same with a file of 900 blocks, in zones of 512. The blocks of the file that lie in the zone of queue
+// 0, beginning with 66, are written home, and the other ones, which lie in that of queue 1, into the
+// journal area.
 const LARGE: &str = "mkdir /a\ncreate /a/f\nwrite /a/f 0 fill:61:3686400\nfsync\n";
 
 // The second one overwrites the first bytes of the file.
 const BESIDE: &str = "write /a/f 0 \"no\"\nfsync\n";
 
-// The first one overwrites all blocks of the file but the first one. They have room in an empty journal area alone.
+// The first one overwrites all blocks of the file but the first one. They have room in an empty journal
+// area alone.
 const AGAIN: &str = "write /a/f 4096 fill:62:3682304\nfsync\n";
 
 // The one group of a script.

@@ -146,8 +146,8 @@ fn run_over<P: Port + Drop + Send, R: Threads + Wait + Sync>(
     Ok((answers, ports))
 }
 
-/// Two sessions make their calls on the drive that starts from a recovered image, under the watch that holds a
-/// checkpoint of the first one. Then its power is cut.
+/// Two sessions make their calls on the drive that starts from a recovered image, under the watch that
+/// holds a checkpoint of the first one. Then its power is cut.
 pub fn run_held<R: Threads + Wait + Sync>(
     rt: &R,
     alloc: Global,

@@ -20,8 +20,9 @@ fn comes(flag: &AtomicBool) -> bool {
     false
 }
 
-/// Holds the first home write of the root until a commit beside it was answered with its number. A checkpoint writes the
-/// blocks home in their order: the first one of the root is the least one that waits in a journal area.
+/// Holds the first home write of the root until a commit beside it was answered with its number. A
+/// checkpoint writes the blocks home in their order: the first one of the root is the least one that waits
+/// in a journal area.
 #[derive(Drop)]
 pub struct Hold {
     // The home write was reached.
@@ -49,12 +50,13 @@ impl Hold {
         self.begun.store(comes(&self.reached), SeqCst);
     }
 
-    /// Tells what the commit was answered; `None` is a refusal.
+    /// Reports what the commit was answered; `None` is a refusal.
     pub fn tell(&self, at: &Option<TxNo>) {
         self.answered.store(at.is_some(), SeqCst);
     }
 
-    /// Whether the commit began since the home write was reached, which was let go since the commit was answered.
+    /// Whether the commit began since the home write was reached, which was let go since the commit was
+    /// answered.
     pub fn has_held(&self) -> bool {
         self.begun.load(SeqCst) && self.let_go.load(SeqCst)
     }

@@ -185,8 +185,8 @@ fn fork<
     }
 }
 
-/// The first session does its group and then its step, by which it makes a checkpoint. The second one does its group
-/// while the checkpoint is held.
+/// The first session does its group and then its step, by which it makes a checkpoint. The second one does
+/// its group while the checkpoint is held.
 pub fn call_both<P: Port + Drop + Send, R: Threads + Wait + Sync>(
     rt: &R,
     alloc: Global,

@@ -52,8 +52,8 @@ const SUPER: [Part<'static>; 7] = [
     (28, &[128, 7]),
 ];
 
-// A write of a transaction to a block, in a slot: the transaction, the slot, 16 times it, the block, and the kind of the
-// request.
+// A write of a transaction to a block, in a slot: the transaction, the slot, 16 times it, the block, and
+// the kind of the request.
 fn put_entry(
     file: &mut Vec<u8>,
     number: u8,
@@ -160,8 +160,8 @@ pub fn empty_image(alloc: Global) -> Result<Vec<u8>, AllocError> {
     Ok(file)
 }
 
-// The same after `mkdir /a`, `create /a/f` and `write /a/f 0 "hi"` in one transaction that is in the journal whole and
-// not at home.
+// The same after `mkdir /a`, `create /a/f` and `write /a/f 0 "hi"` in one transaction that is in the
+// journal whole and not at home.
 pub fn journal_image(alloc: Global) -> Result<Vec<u8>, AllocError> {
     let mut file = Vec::new(alloc);
     put_parts(&mut file, &HEAD, 40)?;
@@ -174,7 +174,8 @@ pub fn journal_image(alloc: Global) -> Result<Vec<u8>, AllocError> {
     Ok(file)
 }
 
-// The same with a transaction of this number in the journal of queue 1. As number 2 it renames the file to `/a/g`.
+// The same with a transaction of this number in the journal of queue 1. As number 2 it renames the file to
+// `/a/g`.
 pub fn two_queue_image(alloc: Global, number: u8) -> Result<Vec<u8>, AllocError> {
     let mut file = Vec::new(alloc);
     put_parts(&mut file, &HEAD, 40)?;

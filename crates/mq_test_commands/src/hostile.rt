@@ -96,8 +96,8 @@ fn wrong_descriptors_are_refused(rt: HostRuntime) -> Result<(), AllocError> {
     Ok(())
 }
 
-// What is wrong and no cause: a base that covers the transaction, a head that was not moved past it, and a place of the
-// descriptor one lap on, at the same index.
+// What is wrong and no cause: a base that covers the transaction, a head that was not moved past it, and a
+// place of the descriptor one lap on, at the same index.
 const TAKEN: [(&[Part<'static>], &str); 3] = [
     (&[(32, &[1])], "prefix 0\nbase 1\n"),
     (&[(48, &[0])], "prefix 0\nbase 1\n"),

@@ -1,5 +1,5 @@
-//! Tests of the commands on images: whole calls over files and an output in memory, on images that are made byte by
-//! byte.
+//! Tests of the commands on images: whole calls over files and an output in memory, on images that are made
+//! byte by byte.
 #![tactic(auto)]
 
 #[cfg(test)]

@@ -18,8 +18,8 @@ fn left_by(
     Ok(found.held)
 }
 
-// Whether a recovery of an image is done and says this, and whether the image lists as before then, and has these
-// words, with all transactions home.
+// Whether a recovery of an image is done and says this, and whether the image lists as before then, and has
+// these words, with all transactions home.
 fn is_recovered(
     alloc: Global,
     image: &[u8],
@@ -94,7 +94,8 @@ fn a_recovery_is_cut_at_each_event(rt: HostRuntime) -> Result<(), AllocError> {
     Ok(())
 }
 
-// Cuts of the recovery of one transaction, which makes 12 events: within a home write, after all of them, and none.
+// Cuts of the recovery of one transaction, which makes 12 events: within a home write, after all of them,
+// and none.
 #[test]
 fn cuts_of_a_recovery_of_one_queue(rt: HostRuntime) -> Result<(), AllocError> {
     let image = journal_image(rt.alloc())?;

@@ -1,10 +1,11 @@
-// Runs of a script on an image: the image with a transaction in its journal alone is what the cut of a run leaves.
+// Runs of a script on an image: the image with a transaction in its journal alone is what the cut of a run
+// leaves.
 use crate::bytes::{Part, edited, empty_image, journal_image};
 use crate::calls::Outcome;
 use mq_calls::Open;
-use mq_commands::run;
 use mq_image_run::RunOptions;
 use mq_outside::{MemFiles, MemSink};
+use mq_run_command::run;
 use std::alloc::{AllocError, Global};
 use std::sync::Wait;
 use std::thread::Threads;
@@ -66,8 +67,8 @@ fn a_cut_run_leaves_the_image(rt: HostRuntime) -> Result<(), AllocError> {
     Ok(())
 }
 
-// Edits of that image on which no script is run, and the line that is said: a base and a doorbell above the limit of a
-// run, a file that is no image, and a queue that is not readable.
+// Edits of that image on which no script is run, and the line that is said: a base and a doorbell above the
+// limit of a run, a file that is no image, and a queue that is not readable.
 const REFUSED: [(&[Part<'static>], &str); 4] = [
     (
         &[(32, &[1, 0, 0, 0, 0, 0, 0, 64])],

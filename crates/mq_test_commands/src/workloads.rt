@@ -3,7 +3,7 @@ ghost use Rattle.std.specs.Prelude.{◌≤◌};
 
 use crate::calls::{Call, Failing, NOTHING_FAILS, Outcome, ends};
 use mq_calls::Open;
-use mq_commands::{Workload, generate};
+use mq_generated::{Workload, generate_and_save};
 use mq_outside::{MemFiles, MemSink};
 use std::alloc::{AllocError, Global};
 use std::sync::Wait;
@@ -27,7 +27,7 @@ fn outcome<R: Threads + Wait + Sync>(
         threads,
         groups,
     };
-    let status = generate(rt, alloc, workload, Some("d"), &mut files, &mut out, &Open);
+    let status = generate_and_save(rt, alloc, workload, Some("d"), &mut files, &mut out, &Open);
     let held = match files.get("d") {
         Some(bytes) => Some(Vec::from_slice(alloc, bytes)?),
         None => None,

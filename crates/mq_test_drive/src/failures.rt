@@ -1,4 +1,4 @@
-// The command that fails, and the doubt that it leaves.
+// The command that fails, and the block that it leaves uncertain.
 use crate::drive::{
     QUEUE, ended, filled, fresh, holds, is_blank, is_drawn, one_queue, post, powered, three,
     two_steps,

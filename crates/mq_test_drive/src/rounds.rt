@@ -54,7 +54,7 @@ fn what_is_rung_is_done(rt: HostRuntime) -> Result<(), OutOfMemory> {
     Ok(())
 }
 
-// What a port tells that starts from an image, and what a cut leaves of it after its head is stored.
+// What a port shows that starts from an image, and what a cut leaves of it after its head is stored.
 #[derive(Drop)]
 struct Started {
     role: Role,

@@ -1,4 +1,5 @@
-//! The tests of the formats: queue entries, descriptors, images of drives as files, block texts and scripts.
+//! The tests of the formats: queue entries, descriptors, images of drives as files, block texts and
+//! scripts.
 #![tactic(auto)]
 
 #[cfg(test)]

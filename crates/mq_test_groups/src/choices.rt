@@ -101,7 +101,7 @@ impl Choices {
         }
     }
 
-    // One of the first so many letters, or sometimes an odd name.
+    // One of the first `letters` letters, or sometimes an odd name.
     fn name(&mut self, alloc: Global, letters: u64) -> Result<Name, OutOfMemory> {
         if self.below(40) == 0 {
             return self.odd_name(alloc);

@@ -1,5 +1,5 @@
-//! The tests of requests: what a plain volume answers to them, and groups that a generator chooses, which the
-//! plain volume and `run` of `mq_exec` must answer alike.
+//! The tests of requests: what a plain volume answers to them, and groups that a generator chooses, which
+//! the plain volume and `run` of `mq_exec` must answer alike.
 #![tactic(auto)]
 
 #[cfg(test)]

@@ -38,7 +38,7 @@ enum Step<'a> {
     Asks(&'a [u8], What<'a>, Answer<'a>),
     /// Files with these letters as names are made in the root.
     Makes(&'a [u8]),
-    /// So many blocks has an inode then, and this one with pointers.
+    /// The inode of this number has this number of blocks then, and this one with pointers.
     Has(usize, usize, Option<u32>),
 }
 

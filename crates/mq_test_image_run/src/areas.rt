@@ -4,7 +4,7 @@ use crate::program::{call, files_of};
 use mq_calls::Open;
 use std::alloc::Global;
 
-// A script that makes a file, and then writes its block so many times, each in a group of its own.
+// A script that makes a file, and then writes its block this number of times, each in a group of its own.
 fn rewrites(alloc: Global, times: u64) -> Result<String, Failure> {
     let mut text = String::from_str(alloc, "create /f\nwrite /f 0 \"a\"\nfsync\n")?;
     for count in 0..times {
@@ -17,8 +17,8 @@ fn rewrites(alloc: Global, times: u64) -> Result<String, Failure> {
 // The drive has one queue.
 const FORMAT: &str = "format d 1 1024 64 256";
 
-// An area of 1,024 blocks holds the copies and descriptors of 401 groups, and not those of 601: a checkpoint is made
-// between them. With a cut none is made at the end.
+// An area of 1,024 blocks holds the copies and descriptors of 401 groups, and not those of 601: a
+// checkpoint is made between them. With a cut none is made at the end.
 #[test]
 fn areas_are_filled(rt: HostRuntime) -> Result<(), Failure> {
     for (times, fits) in [(400, true), (600, false)] {

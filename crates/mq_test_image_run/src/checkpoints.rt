@@ -8,15 +8,15 @@ use std::alloc::Global;
 use std::sync::Wait;
 use std::thread::Threads;
 
-// How many groups overwrite the file, which has 15 blocks. Each of them takes 16 of the area's 1,024 places, so that a
-// checkpoint is made before the 64th or so of them, and then each time after 64 more.
+// How many groups overwrite the file, which has 15 blocks. Each of them takes 16 of the area's 1,024
+// places, so that a checkpoint is made before the 64th or so of them, and then each time after 64 more.
 const TIMES: u64 = 210;
 
 // No run of the script has more events.
 const MOST: u32 = 16_384;
 
-// A checkpoint writes the file's blocks home, and a few blocks of metadata, in two events each, and then stores and
-// flushes the base.
+// A checkpoint writes the file's blocks home, and a few blocks of metadata, in two events each, and then
+// stores and flushes the base.
 const EVENTS: u32 = 48;
 
 // The byte with which the group with a number fills the file.

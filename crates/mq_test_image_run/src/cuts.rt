@@ -16,7 +16,7 @@ fn cut_after(events: u32) -> Asked {
     }
 }
 
-// The report of the first group, which makes 18 events, with a cut after so many.
+// The report of the first group, which makes 18 events, with a cut after this number.
 fn first_report(alloc: Global, events: u32) -> Result<String, Failure> {
     let answer = if events < 18 { "off" } else { "ok" };
     let happened = events.min(18);
@@ -57,7 +57,8 @@ fn one_group_is_cut_at_each_event(rt: HostRuntime) -> Result<(), Failure> {
     Ok(())
 }
 
-// A number that was not rung is drawn again; one that was rung is not, and the recovery moves base and head past it.
+// A number that was not rung is drawn again; one that was rung is not, and the recovery moves base and head
+// past it.
 #[test]
 fn a_run_follows_a_cut(rt: HostRuntime) -> Result<(), Failure> {
     let empty = empty_file(rt.alloc())?;
@@ -73,7 +74,7 @@ fn a_run_follows_a_cut(rt: HostRuntime) -> Result<(), Failure> {
     Ok(())
 }
 
-// After how many events a recovery is cut that follows a cut of the run after so many.
+// A run is cut after a number of events, and the recovery that follows after another.
 #[test]
 fn recoveries_after_cuts_are_cut(rt: HostRuntime) -> Result<(), Failure> {
     let empty = empty_file(rt.alloc())?;
@@ -99,7 +100,8 @@ fn recoveries_after_cuts_are_cut(rt: HostRuntime) -> Result<(), Failure> {
     Ok(())
 }
 
-/// Three groups: a directory with a file, both taken away again, and a file with a byte. They make 46 events.
+/// Three groups: a directory with a file, both taken away again, and a file with a byte. They make 46
+/// events.
 pub const THREE: &str =
     "mkdir /d\ncreate /d/f\nfsync\nunlink /d/f\nrmdir /d\nfsync\ncreate /g\nwrite /g 0 \"x\"\nfsync\n";
 
@@ -130,8 +132,8 @@ fn three_groups_are_cut_at_each_event(rt: HostRuntime) -> Result<(), Failure> {
     Ok(())
 }
 
-// The block that was a directory's is free in the second group and holds the file's byte in the third, which revokes its
-// copy.
+// The block that was a directory's is free in the second group and holds the file's byte in the third,
+// which revokes its copy.
 #[test]
 fn a_block_is_revoked(rt: HostRuntime) -> Result<(), Failure> {
     let empty = empty_file(rt.alloc())?;

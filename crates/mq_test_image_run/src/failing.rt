@@ -5,16 +5,16 @@ use crate::plain::{FIRST, FIRST_TREE};
 use crate::runs::{Asked, run};
 use std::alloc::Global;
 
-// How a run of the first group ends of which a command fails: the answer and the last line, whether the command was
-// executed, and the prefix that the next recovery finds.
+// How a run of the first group ends of which a command fails: the answer and the last line, whether the
+// command was executed, and the prefix that the next recovery finds.
 type Ending = (&'static str, &'static str, bool, u64);
 
 const FAILED: Ending = ("failed 1 640 1", "stopped tx 1", true, 0);
 
 const CLEAN: Ending = ("ok 1", "clean 1", false, 0);
 
-// The command that fails, by port and number, and the ending. The group has 7 entries on queue 0; its metadata is in the
-// home blocks 1, 3 and 4, and its directories are in the blocks 64 and 65 of zone 0.
+// The command that fails, by port and number, and the ending. The group has 7 entries on queue 0; its
+// metadata is in the home blocks 1, 3 and 4, and its directories are in the blocks 64 and 65 of zone 0.
 const COMMANDS: [((u64, u64), Ending); 14] = [
     ((0, 1), FAILED),
     ((0, 3), FAILED),

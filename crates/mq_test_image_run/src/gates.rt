@@ -99,8 +99,8 @@ fn a_session_goes_on_while_another_is_held(rt: HostRuntime) -> Result<(), Failur
     Ok(())
 }
 
-/// Scripts of two sessions, of which the second changes something only after the first one's command has failed. The
-/// first one's second group is not carried out.
+/// Scripts of two sessions, of which the second changes something only after the first one's command has
+/// failed. The first one's second group is not carried out.
 pub const STOPPED: [&str; 2] = [
     "mkdir /a\ncreate /a/f\nwrite /a/f 0 \"hi\"\nfsync\nmkdir /c\nfsync\n",
     "unlink /x\nfatomic\nmkdir /b\nfsync\n",

@@ -1,4 +1,4 @@
-// Files of images in memory, and what they tell.
+// Files of images in memory, and what they hold.
 ghost use Rattle.std.specs.Prelude.{◌≤◌, ◌^◌};
 ghost use Rattle.std.specs.Option.{ForSome};
 
@@ -25,7 +25,7 @@ pub fn lists(alloc: Global, file: &[u8], tree: &str) -> Result<bool, Failure> {
     Ok(text.as_slice() == tree.as_bytes())
 }
 
-/// The text that tells the words and the chains of an image.
+/// The text that gives the words and the chains of an image.
 pub fn dumped(alloc: Global, file: &[u8]) -> Result<String, Failure> {
     let text = dump_image(alloc, read_image(alloc, file)?)?;
     Ok(String::from_utf8_lossy(alloc, &text)?)

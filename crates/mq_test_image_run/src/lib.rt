@@ -1,5 +1,5 @@
-//! Tests of runs of scripts on images of drives: whole runs in memory, the texts that report them, and what their
-//! images hold then.
+//! Tests of runs of scripts on images of drives: whole runs in memory, the texts that report them, and what
+//! their images hold then.
 #![tactic(auto)]
 
 #[cfg(test)]

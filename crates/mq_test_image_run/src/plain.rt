@@ -58,9 +58,10 @@ const SCRIPTS: [(&str, &str, &str); 9] = [
     ),
 ];
 
-// Scripts on the empty file system of other drives, by queues, area, metadata and zone. On the first the two zones have
-// two blocks each, and the last write finds none. On the second the group writes the 1,036 blocks of data of the largest
-// file, its block of pointers, three blocks of metadata and the root's block; the session goes on after the refusal.
+// Scripts on the empty file system of other drives, by queues, area, metadata and zone. On the first the
+// two zones have two blocks each, and the last write finds none. On the second the group writes the 1,036
+// blocks of data of the largest file, its block of pointers, three blocks of metadata and the root's block;
+// the session goes on after the refusal.
 const OTHER_DRIVES: [([u32; 4], &str, &str, &str); 2] = [
     (
         [2, 1024, 16, 2],
@@ -113,8 +114,8 @@ fn scripts_on_other_drives_are_reported(rt: HostRuntime) -> Result<(), Failure> 
     Ok(())
 }
 
-// Without a number the image is as it was. A group adds what it writes, its copies and its descriptor; with a cut after all
-// of its events the copies are not at home.
+// Without a number the image is as it was. A group adds what it writes, its copies and its descriptor; with
+// a cut after all of its events the copies are not at home.
 #[test]
 fn images_have_what_was_written(rt: HostRuntime) -> Result<(), Failure> {
     let empty = empty_file(rt.alloc())?;

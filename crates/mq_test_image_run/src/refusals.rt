@@ -22,8 +22,8 @@ fn edited(alloc: Global, file: &[u8], edits: &[Part]) -> Result<Vec<u8>, AllocEr
     Ok(copy)
 }
 
-// Edits of the image that the first group left, and why it is not run then. The base stands at 32; doorbell and head of
-// queue 0 at 40 and 48, and of queue 1 at 65,592 and 65,600.
+// Edits of the image that the first group left, and why it is not run then. The base stands at 32; doorbell
+// and head of queue 0 at 40 and 48, and of queue 1 at 65,592 and 65,600.
 const REFUSED: [(&[Part], Failure); 5] = [
     (
         &[(32, &[1, 0, 0, 0, 0, 0, 0, 64])],

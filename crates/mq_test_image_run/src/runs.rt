@@ -36,7 +36,8 @@ pub const PLAIN: Asked = Asked {
 #[derive(Drop)]
 pub struct Outcome {
     pub report: String,
-    /// The greatest number that was acknowledged, or 0: a group that ends with `fsync` was answered `ok` with it.
+    /// The greatest number that was acknowledged, or 0: a group that ends with `fsync` was answered `ok`
+    /// with it.
     pub acknowledged: u64,
     /// The session of each commit, in number order.
     pub committed: Vec<u32>,

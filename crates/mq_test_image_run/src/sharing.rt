@@ -12,8 +12,8 @@ const FILES: u64 = 10;
 // The directories of the two sessions.
 const NAMES: [&str; 2] = ["a", "b"];
 
-// The first group makes the shared directory and the session's own, where they are not there yet; each other group makes
-// a file.
+// The first group makes the shared directory and the session's own, where they are not there yet; each
+// other group makes a file.
 fn script_of(alloc: Global, name: &str) -> Result<String, Failure> {
     let mut text = format!(in alloc; "mkdir /c\nmkdir /{name}\nfsync\n")?;
     for file in 0..FILES {
@@ -65,7 +65,7 @@ fn groups_of(ran: &Outcome, count: u64) -> [u64; 2] {
     [first, second]
 }
 
-// Whether the image holds the tree after the first commits of the run, so many.
+// Whether the image holds the tree after the first `count` commits of the run.
 fn holds(alloc: Global, file: &[u8], ran: &Outcome, count: u64) -> Result<bool, Failure> {
     let tree = tree_after(alloc, groups_of(ran, count))?;
     lists(alloc, file, tree.as_str())

@@ -93,8 +93,8 @@ fn is_clear(ledger: &Ledger, queue: u32, head: u64, mark: u64) -> bool {
     queue < ledger.geometry().queues() && ledger.is_clear(QueueNo(queue), head, mark)
 }
 
-// Three transactions: blocks 1 and 5 logged by queue 0; block 1 logged and block 6 written directly by queue 1;
-// block 2 logged and block 5 freed by queue 0.
+// Three transactions: blocks 1 and 5 logged by queue 0; block 1 logged and block 6 written directly by
+// queue 1; block 2 logged and block 5 freed by queue 0.
 const THREE: [Plan<'static>; 3] = [
     Plan {
         number: 4,

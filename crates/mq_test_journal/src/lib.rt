@@ -1,5 +1,5 @@
-//! Transactions and events in tables, for tests of the journal's layers; and the tests of the ledger, of plans
-//! and of the machine.
+//! Transactions and events in tables, for tests of the journal's layers; and the tests of the ledger, of
+//! plans and of the machine.
 #![tactic(auto)]
 
 mod contents;

@@ -9,7 +9,7 @@ use std::alloc::Global;
 pub enum Step<'a> {
     /// The transaction is drawn.
     Draw(Plan<'a>),
-    /// The transaction is drawn, and its entries, so many, are staged, flushed and rung.
+    /// The transaction is drawn, and this number of entries is staged, flushed and rung.
     Send(Plan<'a>, u32),
     /// The commands of a queue from one count up to another are completed, and the head moves past them.
     Finish { queue: u32, from: u64, to: u64 },

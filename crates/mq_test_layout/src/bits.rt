@@ -22,7 +22,7 @@ fn bits_and_pointers_stand_in_their_places(rt: HostRuntime) -> Result<(), OutOfM
     assert!(rt; is_with(rt.alloc(), &block, 0, &[0x01, 0x10]));
     assert!(rt; bit(&block, 12) && !bit(&block, 11));
     block.clear();
-    set_pointer(&mut block, 1023, 258);
+    set_pointer(block.bytes_mut(), 1023, 258);
     assert!(rt; is_with(rt.alloc(), &block, 4092, &[2, 1]));
     assert_eq!(rt; pointer(&block, 1023), 258);
     Ok(())

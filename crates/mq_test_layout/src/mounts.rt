@@ -86,7 +86,7 @@ fn mark(blocks: &mut [Option<Block>]) {
     patch(blocks, 3, 64, &(FIRST + 1036).to_le_bytes());
     if let Some(Some(block)) = blocks.get_mut(FIRST as usize + 1036) {
         for k in 0..1024u32 {
-            set_pointer(block, k, FIRST + 12 + k);
+            set_pointer(block.bytes_mut(), k, FIRST + 12 + k);
         }
     }
 }

@@ -24,8 +24,8 @@ pub fn words_in(alloc: Global, line: &str) -> Result<Vec<String>, AllocError> {
     Ok(all)
 }
 
-// Files of which `t` holds this text, and `s` a script of two groups that leaves the tree as it was. The calls listed
-// fail.
+// Files of which `t` holds this text, and `s` a script of two groups that leaves the tree as it was. The
+// calls listed fail.
 fn files_of(alloc: Global, text: &[u8], fail: &[u64]) -> Result<MemFiles, AllocError> {
     let script = b"mkdir /c\nfsync\nrmdir /c\nfsync\n";
     let names = vec![in alloc;

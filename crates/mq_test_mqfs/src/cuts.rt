@@ -1,7 +1,6 @@
 // Generated texts, cut at each of their events: what is printed is what a plain program makes of the text.
 use crate::calls::outcome_of;
-use crate::generated::some_text;
-use crate::standing::{all_events, is_right};
+use mq_test_text_run::{all_events, is_right, some_text};
 use mq_text::{BlockText, read_block_text};
 use std::alloc::{AllocError, Global};
 use std::ops::Range;

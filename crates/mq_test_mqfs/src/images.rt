@@ -13,7 +13,7 @@ tx 1 place 2 logged 2 revoked 0
 prefix 2
 ";
 
-// A new image, and what is told of it.
+// A new image, and what is reported of it.
 const FORMATTED: [Step<'static>; 8] = [
     ("format d 0 1024 64 256", 3, "geometry Queues 0\n"),
     ("ls d", 4, "fault load d\n"),
@@ -53,8 +53,9 @@ queue 0 doorbell 5 head 5
 prefix 0
 ";
 
-// The recovery of that image makes 8 events: three home writes, and the store and the flush of the base. It is cut
-// before the first, after the home writes, and not at all; a file that is none, and an image that is none, are refused.
+// The recovery of that image makes 8 events: three home writes, and the store and the flush of the base. It
+// is cut before the first, after the home writes, and not at all; a file that is none, and an image that is
+// none, are refused.
 const RECOVERED: [Step<'static>; 13] = [
     ("blocks t --save d", 0, "prefix 2\n5 ab\n9 ff\n"),
     ("recover d --cut 0", 0, "prefix 2\nbase 2\ncut 0\n"),

@@ -1,5 +1,4 @@
-//! Tests of the program `mqfs`: whole calls over files and an output in memory, and texts that are cut from power
-//! and recovered.
+//! Tests of the program `mqfs`: whole calls over files and an output in memory.
 #![tactic(auto)]
 
 #[cfg(test)]
@@ -7,14 +6,9 @@ mod calls;
 #[cfg(test)]
 mod cuts;
 #[cfg(test)]
-mod drives;
-#[cfg(test)]
-mod generated;
-#[cfg(test)]
 mod images;
 #[cfg(test)]
 mod outcomes;
-mod ports;
 #[cfg(test)]
 mod refusals;
 #[cfg(test)]
@@ -22,10 +16,6 @@ mod runs;
 #[cfg(test)]
 mod saved;
 #[cfg(test)]
-mod standing;
-#[cfg(test)]
 mod words;
 #[cfg(test)]
 mod workloads;
-
-pub use ports::let_go;

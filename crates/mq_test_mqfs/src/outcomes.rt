@@ -183,7 +183,8 @@ fn a_recovery_of_two_lines_is_cut_at_each_event(rt: HostRuntime) -> Result<(), A
     Ok(())
 }
 
-// Whether a recovery that is cut at any of its events and begun again prints what one that isn't cut prints.
+// Whether a recovery that is cut at any of its events and begun again prints what one that isn't cut
+// prints.
 fn again_is_the_same<R: Threads + Wait + Sync>(
     rt: &R,
     alloc: Global,

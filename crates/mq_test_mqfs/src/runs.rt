@@ -1,4 +1,5 @@
-// Scripts that are run on images: reports, cuts and their recovery, a command that fails, and scripts that are refused.
+// Scripts that are run on images: reports, cuts and their recovery, a command that fails, and scripts that
+// are refused.
 use crate::calls::{Step, ends, follows};
 use std::alloc::{AllocError, Global};
 
@@ -46,9 +47,9 @@ fn a_script_is_run(rt: HostRuntime) -> Result<(), AllocError> {
     Ok(())
 }
 
-// Before its doorbell write the transaction does not survive, and its number is drawn again. Behind it the number is not,
-// and a recovery moves base and head past it, in 4 events; where the head is stored and not flushed, the transaction
-// survives or not.
+// Before its doorbell write the transaction does not survive, and its number is drawn again. Behind it the
+// number is not, and a recovery moves base and head past it, in 4 events; where the head is stored and not
+// flushed, the transaction survives or not.
 const EARLY: [Step<'static>; 21] = [
     FORMAT,
     (
@@ -127,8 +128,8 @@ queue 1 doorbell 0 head 0
 prefix 0
 ";
 
-// After its last event it stands, and a recovery brings it home, in 12 events: it is cut within a home write, after all
-// of them, and before its last event.
+// After its last event it stands, and a recovery brings it home, in 12 events: it is cut within a home
+// write, after all of them, and before its last event.
 const LATE: [Step<'static>; 15] = [
     FORMAT,
     (
@@ -183,7 +184,8 @@ fn names_have_at_most_255_bytes(rt: HostRuntime) -> Result<(), AllocError> {
     Ok(())
 }
 
-// A command that fails. It ends with the 12th event; with a cut the power goes off before this, then, or never.
+// A command that fails. It ends with the 12th event; with a cut the power goes off before this, then, or
+// never.
 const FAILED: [Step<'static>; 9] = [
     FORMAT,
     (

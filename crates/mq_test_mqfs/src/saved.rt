@@ -32,8 +32,8 @@ const UNCHANGED: [Step<'static>; 3] = [
     FORMAT_E,
 ];
 
-// A cut run, and recoveries of what it left: the first is cut within the third home write or before the base is stored,
-// and the second leaves what a run leaves that is not cut.
+// A cut run, and recoveries of what it left: the first is cut within the third home write or before the
+// base is stored, and the second leaves what a run leaves that is not cut.
 const CUT_RUN: [Step<'static>; 4] = [
     FORMAT,
     ("run d t --cut 19", 0, CUT),
@@ -214,7 +214,8 @@ fn are_refused<R: Threads + Wait + Sync>(
     Ok(true)
 }
 
-// A file that is no image, the words of a queue, a descriptor, and a base that is too great for a run alone.
+// A file that is no image, the words of a queue, a descriptor, and a base that is too great for a run
+// alone.
 const HOSTILE: [Hostile<'static>; 4] = [
     (&[(8, &[2])], ALL, "image Version 2\n"),
     (
@@ -236,8 +237,8 @@ const HOSTILE: [Hostile<'static>; 4] = [
 
 const HIGH: &[u8] = &[1, 0, 0, 0, 0, 0, 0, 64];
 
-// Two numbers on each queue. With a base of 0 both chains are above it, and the newest number of the first is made that
-// of the second.
+// Two numbers on each queue. With a base of 0 both chains are above it, and the newest number of the first
+// is made that of the second.
 const CHAINS: [Step<'static>; 3] = [
     FORMAT,
     (

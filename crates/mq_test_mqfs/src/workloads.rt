@@ -30,7 +30,8 @@ d /t8
 d /t9
 ";
 
-// Without further groups each thread makes its directory alone. The image is saved where a name is given for it.
+// Without further groups each thread makes its directory alone. The image is saved where a name is given
+// for it.
 const DIRECTORIES: [Step<'static>; 10] = [
     ("gen 7 4 0", 0, FOUR),
     ("gen 7 1 0", 0, ONE),

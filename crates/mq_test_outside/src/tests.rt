@@ -116,7 +116,8 @@ fn the_system_fails_where_no_file_can_be(rt: HostRuntime) {
     assert!(rt; fs::remove_file(&rt, "file").is_ok());
 }
 
-// A file that is opened and may not be read, whatever the leaves of the process: its memory, at the address 0.
+// A file that is opened and may not be read, whatever the leaves of the process: its memory, at the address
+// 0.
 #[test]
 fn the_system_fails_where_a_file_may_not_be_read(rt: HostRuntime) {
     let answer = RealFiles::new(&rt).load(rt.alloc(), "/proc/self/mem");

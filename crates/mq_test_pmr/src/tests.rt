@@ -108,7 +108,7 @@ enum Move {
     Stages { tx: u64, count: u32 },
     // It is staged and rung.
     Commits { tx: u64, count: u32 },
-    // So many commands end with success, and then none is left.
+    // This number of commands ends with success, and then none is left.
     Drains(u32),
     // A command of this transaction ends with an error.
     Fails { tx: u64 },

@@ -346,7 +346,7 @@ fn split(event: Event) -> (Event, Call) {
 #[derive(Drop)]
 pub enum Source {
     Given(Vec<Event>),
-    /// So many events are tried, chosen by a generator with this seed.
+    /// This number of events is tried, chosen by a generator with this seed.
     Random { seed: u64, tries: u64 },
 }
 

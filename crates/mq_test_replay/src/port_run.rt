@@ -54,7 +54,7 @@ impl Extent {
     }
 }
 
-/// A port of an emulated drive, with the counts that the conditions of its calls speak of. So each call
+/// A port of an emulated drive, with the counts that the conditions of its calls refer to. So each call
 /// can be made at any time: where a condition isn't met, it is refused, and nothing is changed.
 #[derive(Drop)]
 pub struct PortRun<'f> {

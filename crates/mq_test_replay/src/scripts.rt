@@ -362,7 +362,7 @@ impl Script {
     }
 }
 
-// One in so many transactions of a queue names a block.
+// One in this number of transactions of a queue names a block.
 fn rarity_of(geometry: Geometry, queue: QueueNo, block: BlockNo) -> u64
     requires { block < homes_of geometry }
     ensures { 0 < result }

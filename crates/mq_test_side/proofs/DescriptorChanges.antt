@@ -1,4 +1,4 @@
--- Writes and what a plan is told of them, one more of each.
+-- Writes and what a plan is given of them, one more of each.
 use Rattle.std.proofs.Common.{◌≡◌, ℕ, ◌+◌, List, [], ◌∷◌, ◌++◌, map, sym, ap, subst, ◌∙◌, arith}
 use Rattle.std.proofs.lemmas.List.{map-append}
 use Rattle.mq_blocks.specs.Descriptor.{AreRising}

@@ -11,7 +11,7 @@ use std::alloc::Global;
 // The blocks of the metadata region.
 const META: u32 = 16;
 
-/// Writes of blocks, and what a plan is told of them.
+/// Writes of blocks, and what a plan is given of them.
 #[derive(Drop)]
 pub struct Change {
     pub writes: Vec<Write>,

@@ -29,7 +29,7 @@ pub enum Went {
     Refused,
 }
 
-/// A side of queue 0, with what the conditions of its calls speak of, so that each can be made at any time.
+/// A side of queue 0, with what the conditions of its calls refer to, so that each can be made at any time.
 /// Each entry is the number of its transaction, times 10.
 pub struct Driven<P: Port> {
     side: QueueSide<P, u64>,

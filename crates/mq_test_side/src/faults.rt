@@ -82,7 +82,8 @@ fn a_failure_is_kept_where_the_drain_is_cut(rt: HostRuntime) -> Result<(), OutOf
     Ok(())
 }
 
-// Whether all goes as these moves say where one of these calls is refused, and leaves this doorbell and head.
+// Whether all goes as these moves say where one of these calls is refused, and leaves this doorbell and
+// head.
 fn is_left(
     alloc: Global,
     calls: RangeInclusive<u64>,

@@ -28,7 +28,7 @@ pub enum Move {
     Fails,
     Keeps(Option<(TxNo, Why)>),
     IsDone(u64),
-    /// So many transactions are stored.
+    /// This number of transactions is stored.
     HasStored(usize),
     /// A block of the zone is filled with zeros at home.
     WritesHome {

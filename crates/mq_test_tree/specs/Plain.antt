@@ -13,7 +13,7 @@ abbrev pub is_called : List ℕ → Option Entry → Bool
 is_called name None = false
 is_called name (Some e) = bytes_eq e.name name
 
--- a file with these bytes, which keeps so many of its blocks
+-- a file with these bytes, which keeps the first `count` of its blocks
 abbrev pub with_file : Volume → ℕ → List ℕ → (count : ℕ) → Volume
 with_file v i bytes count = slice_set v i (record { body = File bytes; blocks = take count (node v i).blocks; indirect = if nat_lt 12 count then (node v i).indirect else None })
 

@@ -29,7 +29,7 @@ fn named_inode(target: &Target) -> Result<u32, Fault>
     }
 }
 
-// So many bytes from an offset on, where there are so many.
+// This number of bytes from an offset on, or as many as there are.
 fn part_of(alloc: Global, bytes: &[u8], at: u64, count: u64) -> Result<Vec<u8>, OutOfMemory>
     ensures { IfOk result (λ b. b.items ≡ take count (drop at bytes.now)) }
 {

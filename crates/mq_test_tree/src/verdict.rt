@@ -12,7 +12,7 @@ use mq_tree::{Fault, Reply};
 pub enum Verdict {
     /// It answers, and changes nothing.
     Says(Reply),
-    /// It needs so many new blocks, and where these are free it makes this volume.
+    /// It needs this number of new blocks, and where these are free it makes this volume.
     Makes(usize, Volume),
 }
 

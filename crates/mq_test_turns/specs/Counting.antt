@@ -1,4 +1,5 @@
--- A machine for tests. An entry is a vote on a queue, the port of the queue's side counts the votes, and the root is the base word.
+-- A machine for tests. An entry is a vote on a queue, the port of the queue's side counts the votes, and
+-- the root is the base word.
 use Rattle.std.specs.Prelude.{◌≡◌, ◌==◌, ℕ, ◌+◌, ◌%◌, false, List, [], ◌∷◌, map, slice_index_or}
 use Rattle.mq_turns.specs.Lists.{tick}
 use Rattle.mq_turns.specs.Meaning.{Meaning, Touch}

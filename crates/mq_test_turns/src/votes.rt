@@ -70,8 +70,8 @@ impl<P: Port> Machine for Counting<P> {
     fn obeys() {}
 }
 
-/// What a round saw and drew: the counter before and after the draw, and the front before and after the vote was
-/// known done.
+/// What a round saw and drew: the counter before and after the draw, and the front before and after the
+/// vote was known done.
 #[derive(Clone, Copy)]
 struct Round {
     before: TxNo,
@@ -81,8 +81,8 @@ struct Round {
     done: TxNo,
 }
 
-// Takes the queue's side, looks, lowers the mark to the next number, draws, looks again, counts the vote on the port, reads the
-// front, raises the mark past the vote, reads the front again, and gives the side back.
+// Takes the queue's side, looks, lowers the mark to the next number, draws, looks again, counts the vote on
+// the port, reads the front, raises the mark past the vote, reads the front again, and gives the side back.
 fn cast<P: Port, R: Wait>(
     rt: &R,
     desk: &Desk<Counting<P>>,
@@ -222,7 +222,7 @@ fn last_chair(
     chair
 }
 
-/// What one thread does: so many votes as the row has room for.
+/// What one thread does: as many votes as the row has room for.
 #[derive(Drop)]
 struct Task {
     chair: Chair<Counting<Word>>,
@@ -504,7 +504,8 @@ fn mark(seen: &mut [bool], numbers: &[u64]) -> bool {
     true
 }
 
-// Marks a thread's numbers, adds its chair to the others, and says whether none was marked before and the front is the last number.
+// Marks a thread's numbers, adds its chair to the others, and says whether none was marked before and the
+// front is the last number.
 fn collect(
     desk: &Desk<Counting<Word>>,
     chairs: &mut Vec<Chair<Counting<Word>>>,

@@ -1,4 +1,4 @@
-//! Tests of a port that tells a watch of its calls.
+//! Tests of a port that reports its calls to a watch.
 #![tactic(auto)]
 
 #[cfg(test)]

@@ -1,18 +1,18 @@
-// A watch that compares what it is told with what it is to be told.
+// A watch that compares the calls that are reported to it with those that should be.
 use mq_drive::Role;
 use mq_watch::{Call, Watch};
 use std::cell::Cell;
 
-/// A call that a watch is told of.
+/// A call that is reported to a watch.
 #[derive(Clone, Copy, Debug, PartialEq, Eq)]
 pub struct Told {
-    /// Which of the watches is told.
+    /// To which of the watches it is reported.
     pub level: u8,
     pub role: Role,
     pub call: Call,
 }
 
-/// What watches are to be told, in order, and how it went so far.
+/// The calls that should be reported to watches, in order, how many were, and whether another was.
 #[derive(Drop)]
 pub struct Log<'t> {
     wanted: &'t [Told],
@@ -37,7 +37,7 @@ impl<'t> Log<'t> {
         self.count.set(count.saturating_add(1));
     }
 
-    /// Whether all this was told, and no more.
+    /// Whether all these were reported, and no more.
     pub fn is_told(&self) -> bool {
         !self.is_other.get() && self.count.get() == self.wanted.len()
     }

@@ -67,7 +67,8 @@ fn watched_queue<W: Watch>(
     Ok((answers, port.into_inner().cut(9).0))
 }
 
-// What a watch of the queue is to be told where so many calls of the commit are made: these, and each step.
+// What should be reported to a watch of the queue where the first `calls` calls of the commit are made:
+// these, and each step.
 fn told_of_queue(alloc: Global, calls: usize) -> Result<Vec<Told>, OutOfMemory> {
     let commit = [
         Call::StoreHead,
@@ -88,7 +89,7 @@ fn told_of_queue(alloc: Global, calls: usize) -> Result<Vec<Told>, OutOfMemory> 
 }
 
 // Whether a queue with power for the given number of events answers under a watch as without one, and
-// whether the watch is told of this.
+// whether this is reported to the watch.
 fn is_watched(
     rt: &impl Abort,
     alloc: Global,
@@ -146,7 +147,7 @@ fn unwatched_root(
     Ok((answer, port.cut(9).0))
 }
 
-// A port that one watch is told of, under one that another watch is told of.
+// A port that reports to one watch, under one that reports to another.
 fn root_watched_twice<W: Watch>(
     rt: &impl Abort,
     alloc: Global,
@@ -162,7 +163,7 @@ fn root_watched_twice<W: Watch>(
     Ok((answer, port.into_inner().into_inner().cut(9).0))
 }
 
-// The watch above is told of a call before the call comes to the watch below.
+// A call is reported to the watch above before it comes to the watch below.
 fn told_of_root(alloc: Global) -> Result<Vec<Told>, OutOfMemory> {
     let mut told = Vec::new(alloc);
     for call in [Call::StoreBase, Call::Flush, Call::WriteHome] {

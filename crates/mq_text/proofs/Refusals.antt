@@ -1,4 +1,4 @@
--- What the answers of the reading tell: no other answer fits.
+-- What the answers of the reading say: no other answer fits.
 use Rattle.std.proofs.Common.{◌≡◌, ℕ, List, [], eqb, inl, inr, refl}
 use Rattle.std.specs.Prelude.{map, Result, Ok, Err, IfOk, IfErr, MatchResult}
 use Rattle.std.specs.List.{slice_split}
@@ -33,7 +33,7 @@ refused_of_words before text cause some bad =
       refused = bad.refused;
     })
 
--- a refusal that is told so is told otherwise
+-- what a refusal says, in a weaker form
 pub refused_more : (P Q : ℕ → BlockTextCause → Type 0) → ((line : ℕ) (cause : BlockTextCause) → P line cause → Q line cause) → (e : BlockTextRefusal) → IsRefused P e → IsRefused Q e
 refused_more P Q f (At line cause) bad = f line cause bad
 refused_more P Q f OutOfMemory bad = tt

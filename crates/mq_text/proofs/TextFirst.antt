@@ -17,7 +17,8 @@ abbrev pub AreGoodAfter : {A : Type 0} → (List A → A → Type 0) → List A 
 AreGoodAfter Good before [] = Unit {0}
 AreGoodAfter Good before (x ∷ xs) = Good before x × AreGoodAfter Good (before ++ x ∷ []) xs
 
--- Good things that differ in their texts, and ends, of which no text has two, and no good thing's text has one
+-- Good things that differ in their texts, and ends, of which no text has two, and no good thing's text has
+-- one
 module _ {A C : Type 0} (f : A → List ℕ) (Good : List A → A → Type 0) (Ends : List A → List (List ℕ) → C → Type 0)
     (injective : (xs : List A) (x y : A) → Good xs x → Good xs y → f x ≡ f y → x ≡ y)
     (apart : (xs : List A) (x : A) (rest : List (List ℕ)) (c : C) → Good xs x → Ends xs (f x ∷ rest) c → ⊥)

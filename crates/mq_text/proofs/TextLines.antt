@@ -12,7 +12,7 @@ pub map_parts : {A B : Type 0} (f : A → B) (xs : List A) (i : ℕ) (d : A) →
 map_parts f xs i d h =
     ap (map f) (sym (take-append-drop i xs)) ∙ map-append f (take i xs) (drop i xs) ∙ ap (λ t. map f (take i xs) ++ map f t) (drop_more xs i d h)
 
--- the same where what is before it is told
+-- the same where what is before it is given
 pub told_parts :
     {A B W : Type 0} (now : W → B) (f : A → B) (words : List W) (i : ℕ) (d : W) (xs : List A) → i < length words → map now (take i words) ≡ map f xs
     → map now words ≡ map f xs ++ now (get_or words i d) ∷ map now (drop (i + 1) words)

@@ -93,7 +93,7 @@ pub record RefusesText (bytes : List ℕ) (number : ℕ) (cause : BlockTextCause
   pub counted : number ≡ length before + 1
   pub refused : RefusesLine before text cause
 
--- A refusal at a line tells its number and its cause. When memory runs out, nothing is told of the text.
+-- A refusal at a line gives its number and its cause. Out of memory says nothing of the text.
 abbrev pub IsRefused : (ℕ → BlockTextCause → Type 0) → BlockTextRefusal → Type 0
 IsRefused holds (At line cause) = holds line cause
 IsRefused holds OutOfMemory = Unit {0}

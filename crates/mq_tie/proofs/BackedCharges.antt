@@ -10,7 +10,7 @@ use Rattle.mq_turns.specs.declared.rule.Report.TheVariants as report
 use Rattle.mq_turns.specs.declared.turn.Turn.{Turn}
 use Rattle.mq_turns.specs.declared.turn.Turn.TheVariants.{Page, Side, Root}
 
--- ---- numbers that tell a charge
+-- ---- numbers that identify a charge
 
 abbrev turn_code : Turn → List ℕ
 turn_code Root = []

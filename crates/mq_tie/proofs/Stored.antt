@@ -1,4 +1,5 @@
--- What the sides of all queues store is the history: each entry is stored in one place, and there are as many as numbers.
+-- What the sides of all queues store is the history: each entry is stored in one place, and there are as
+-- many as numbers.
 use Rattle.std.proofs.Common.{◌≡◌, ◌≢◌, ◌⊎◌, ℕ, zero, suc, ◌+◌, ◌-◌, ◌<◌, ◌≤◌, eqb, true, List, [], ◌∷◌, ◌++◌, length, map, get_or, Some, refl, sym, ap, subst, ◌∙◌, inl, inr, arith}
 use Rattle.std.specs.Prelude.{reverse, slice_get}
 use Rattle.std.specs.List.{sum_by}
@@ -70,7 +71,7 @@ map-get f (y ∷ ys) (suc i) b e = map-get f ys i b e
 
 -- ---- sums over queues
 
--- of so many numbers from one on
+-- of the numbers of n queues, from one queue on
 abbrev sum_from : (ℕ → ℕ) → ℕ → ℕ → ℕ
 sum_from f q zero = 0
 sum_from f q (suc n) = f q + sum_from f (suc q) n

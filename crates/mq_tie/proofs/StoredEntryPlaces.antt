@@ -145,7 +145,7 @@ module _ {E : Type 0} (lists : List (List (Drawn E))) where
 
 -- ---- the place of a number
 
--- a number above the base, among so many that follow it, has a place among so many
+-- a number that is one of the `long` that follow the base has one of `wide` places
 pub record HasPlace (base number wide long : ℕ) : Type 0 where
   pub above : base ≤ number
   pub next : 1 ≤ number - base

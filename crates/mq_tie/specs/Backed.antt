@@ -24,8 +24,8 @@ use Rattle.mq_turns.specs.declared.turn.Turn.TheVariants.{Page, Side, Root}
 abbrev pub faults_at : DriveFaults → ℕ → List PortFault
 faults_at d q = slice_index_or d.queues q []
 
--- The port has gained the fault that the report names, or has as many as a count of 64 bits can say: from there on a call
--- that is refused leaves the list of faults as it is.
+-- The port has gained the fault that the report names, or has as many as a count of 64 bits can say: from
+-- there on a call that is refused leaves the list of faults as it is.
 abbrev pub IsBehind : Geometry → Report → List PortFault → List PortFault → Type 0
 IsBehind g report old new = (2 ^ 64 - 1 ≤ length new) ⊎ WasGained (named_by g report) old new
 
@@ -40,7 +40,8 @@ module _ {P E : Type 0} (G : Ghosts P) (state : P → PortState) (faults : P →
   abbrev pub opened_faults : Start P E G → DriveFaults
   opened_faults o = record { queues = map (λ s. faults s.pmr.port) o.sides; root = faults o.root.port }
 
-  -- what a chair of a closed desk had reported is backed by what the port has gained since the desk was opened
+  -- what a chair of a closed desk had reported is backed by what the port has gained since the desk was
+  -- opened
   abbrev pub ReportsAreBacked : Type 0
   ReportsAreBacked =
       (o : Start P E G) (views : List (Seat P E G)) (r : Ended P E G) (c : Charge)

@@ -19,8 +19,8 @@ use Rattle.mq_tie.specs.declared.closing.Unclosed.TheVariants as unclosed
 use Rattle.mq_tie.specs.declared.ended.Ended.{Ended}
 
 module _ {P E : Type 0} {G : Ghosts P} (state : P → PortState) (faults : P → List PortFault) (group : GroupView E) where
-  -- A desk that was opened so, with chairs of these views, has ended with the values of the run: it is what is said of a run by
-  -- what was known together at the end. The sides have the ports and the done numbers.
+  -- A desk that was opened so, with chairs of these views, has ended with the values of the run: it is what
+  -- is said of a run by what was known together at the end. The sides have the ports and the done numbers.
   pub record HasRun (o : Start P E G) (views : List (Seat P E G)) (r : Ended P E G) : Type 0 where
     pub sides : List (QueueSide P E G)
     pub end : DeskEnded (journal state faults group) o views r.pages.items sides r.root r.next r.base

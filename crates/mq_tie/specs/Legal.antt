@@ -1,5 +1,5 @@
--- The history that is known on a desk over ports, as a list, and what each of its commits and each read is on the map at
--- its number.
+-- The history that is known on a desk over ports, as a list, and what each of its commits and each read is
+-- on the map at its number.
 use Rattle.std.specs.Prelude.{◌≡◌, ℕ, suc, ◌-◌, ◌≤◌, List, [], ◌∷◌}
 use Rattle.mq_blocks.specs.Machine.{Map, after}
 use Rattle.mq_ledger.specs.History.{change_of, map_after, upto}
@@ -18,8 +18,8 @@ module _ {Q R E : Type 0} (values : Values Q R E) (group : GroupView E) where
   abbrev pub map_at : DeskState values group → ℕ → Map
   map_at K n = map_after (start_of values group K.opening) (upto n (history_of values group K))
 
-  -- The commit ran on the map right before its number, with its replies and its transaction, its blocks are placed by the
-  -- rule, and the map at its number is what the transaction makes of the one before.
+  -- The commit ran on the map right before its number, with its replies and its transaction, its blocks are
+  -- placed by the rule, and the map at its number is what the transaction makes of the one before.
   pub record IsCommit (K : DeskState values group) (n : ℕ) (e : E) : Type 0 where
     pub does : group.does (geometry_of values group K) (map_at K (n - 1)) e
     pub placed : group.placed (geometry_of values group K) (start_of values group K.opening) K.opening.base (upto (n - 1) (history_of values group K)) e

@@ -16,7 +16,8 @@ use Rattle.mq_tie.specs.Closed.{HasRun}
 use Rattle.mq_tie.specs.Runs.{ports_of}
 use Rattle.mq_tie.specs.declared.ended.Ended.{Ended}
 
--- It is the port of this role, and has the fuse of the other, and the same of its commands and home writes fails.
+-- It is the port of this role, and has the fuse of the other, and the same of its commands and home writes
+-- fails.
 pub record StaysPort (g : Geometry) (role : Role) (old new : PortState) : Type 0 where
   pub port : IsPortOf g role new
   pub bound : IsBoundKept old new
@@ -26,7 +27,8 @@ module _ {P E : Type 0} (G : Ghosts P) (state : P → PortState) (faults : P →
   abbrev pub opened_states : Start P E G → List PortState
   opened_states o = map (λ s. state s.pmr.port) o.sides
 
-  -- The ports are those of the drive still, the queues' in order, each with its fuse and its failing command.
+  -- The ports are those of the drive still, the queues' in order, each with its fuse and its failing
+  -- command.
   pub record KeepsPorts (o : Start P E G) (r : Ended P E G) : Type 0 where
     pub count : length (ports_of r) ≡ length o.sides
     pub queues : (q : ℕ) → q < length o.sides → StaysPort (shape_of (side_values state faults) group o) (Queue q) (port_at (opened_states o) q) (port_at (map state (ports_of r)) q)

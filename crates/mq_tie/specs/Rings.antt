@@ -22,9 +22,9 @@ use Rattle.mq_tie.specs.declared.ended.Ended.{Ended}
 abbrev pub txs_in : {E : Type 0} → GroupView E → ℕ → List (ℕ × E) → List Tx
 txs_in group q history = of_queue q (map (λ h. numbered h.0 (group.tx h.1)) (reverse history))
 
--- The port of a queue rang once for each of these transactions of the queue, newest first, that was sent. Home writes aside,
--- at most 2n + 4 events happened on it for each one of n entries, and one for each of its faults, unless these are as many
--- as a count of 64 bits can say.
+-- The port of a queue rang once for each of these transactions of the queue, newest first, that was sent.
+-- Home writes aside, at most 2n + 4 events happened on it for each one of n entries, and one for each of
+-- its faults, unless these are as many as a count of 64 bits can say.
 pub record RangOnceEach (txs : List Tx) (faults : List PortFault) (old new : PortState) : Type 0 where
   pub rings : new.rings ≡ counted old.rings (rung_of old.doorbell txs new.doorbell)
   pub events : (2 ^ 64 - 1 ≤ length faults) ⊎ (new.events ≤ old.events + most_events txs + length faults)

@@ -1,4 +1,5 @@
--- What a run over the ports of a journal leaves: its history, its ports, and the lawful state that they are.
+-- What a run over the ports of a journal leaves: its history, its ports, and the lawful state that they
+-- are.
 use Rattle.std.specs.Prelude.{◌≡◌, ◌≤◌, ℕ, suc, ◌+◌, ◌-◌, true, List, length, map, reverse, Some, slice_get}
 use Rattle.std.specs.List.{Contains}
 use Rattle.mq_blocks.specs.Drive.{PortState}
@@ -52,8 +53,8 @@ module _ {P E : Type 0} {G : Ghosts P} (state : P → PortState) (faults : P →
   abbrev pub parts_of : Shared P E G → Ended P E G → List ℕ → Parts
   parts_of K r told = parts_over (side_values state faults) group K (map state (ports_of r)) (state r.root.port) told
 
-  -- The parts are one lawful state of the machine, with the words of the marks or each queue's least number that isn't
-  -- done as its mark.
+  -- The parts are one lawful state of the machine, with the words of the marks or each queue's least number
+  -- that isn't done as its mark.
   pub record EndsLawfully (K : Shared P E G) (r : Ended P E G) (told : List ℕ) : Type 0 where
     pub parts : AreParts (parts_of K r told)
     pub marks : AreMarks (parts_of K r told) (marks_from (λ q. mark_of q K.claims) 0 (geometry_of (side_values state faults) group K).queues)

@@ -23,7 +23,7 @@ entries_at lists [] = []
 entries_at lists (s ∷ ss) = with_found (drawn_at lists s) (entries_at lists ss)
 
 module _ {E : Type 0} (lists : List (List (Drawn E))) where
-  -- the numbers of all that is stored follow the base, and there are at most so many
+  -- the numbers of all that is stored are among the `count` that follow the base
   abbrev pub AreWithin : (base count : ℕ) → Type 0
   AreWithin base count = (s : EntryPlace) (d : Drawn E) → drawn_at lists s ≡ Some d → (base < d.number) × (d.number ≤ base + count)
 

@@ -21,15 +21,16 @@ pub fn a_closed_desk_keeps_its_ports<P: Port, G: Groups>()
     ensures { RunsKeepTheirPorts P.Port P.state P.faults G.group }
 {}
 
-/// What a chair of a closed desk had reported is of one of the ports, and backed by it: the port has gained the fault that
-/// the report names since the desk was opened, or has as many faults as a count of 64 bits can say.
+/// What a chair of a closed desk had reported is of one of the ports, and backed by it: the port has gained
+/// the fault that the report names since the desk was opened, or has as many faults as a count of 64 bits
+/// can say.
 pub fn what_was_reported_is_backed<P: Port, G: Groups>()
     ensures { ReportsAreBacked P.Port P.state P.faults G.group }
 {}
 
-/// Each port of a queue that a closed desk gives back has rung once for each commit of the queue that was sent. Home writes
-/// aside, at most 2n + 4 events happened on it for each commit of n entries in the history, and one for each fault of the port,
-/// unless these are as many as a count of 64 bits can say.
+/// Each port of a queue that a closed desk gives back has rung once for each commit of the queue that was
+/// sent. Home writes aside, at most 2n + 4 events happened on it for each commit of n entries in the
+/// history, and one for each fault of the port, unless these are as many as a count of 64 bits can say.
 pub fn an_ended_desk_rang_once_for_each_commit<P: Port, G: Groups>()
     ensures { CommitsRingOnce P.Port P.state P.faults G.group }
 {}

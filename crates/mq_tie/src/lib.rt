@@ -1,5 +1,5 @@
-//! The end of a desk over the ports of a journal: what lies there is one lawful state, and its history is one
-//! list in number order.
+//! The end of a desk over the ports of a journal: what lies there is one lawful state, and its history is
+//! one list in number order.
 #![tactic(auto)]
 
 mod closing;

@@ -93,7 +93,7 @@ parent-good v p m good = (and_parts (list_all is_name m.parent) (list_all is_nam
 same-count : (m n : ℕ) → Count m ≡ Count n → m ≡ n
 same-count m n e = cc
 
--- a directory is full just where it has so many names
+-- a full directory has at least `names_limit` names
 full-dir : (g : Geometry) (q : ℕ) (v : Volume) (p : Path) (d : ℕ) → IsTree v → list_all is_name p ≡ true → inode_at v (way p) ≡ Some d → tree v p ≡ Some ADir → IsFullDir g q v p → names_limit ≤ count_names (slots_of (body v d))
 full-dir g q v p d k good at dir f =
     let e = same-count f.0 (count_names (slots_of (body v d))) (sym f.1 ∙ stat-count g q v p d k good at dir) in

@@ -173,7 +173,7 @@ fresh-then v u w kept first more x b e = elim (more x b e) [
 
 -- ---- growing
 
--- an inode has so many blocks more, and nothing else changed but its block of pointers
+-- an inode has `count` blocks more, and nothing else changed but its block of pointers
 pub record IsGrown (g : Geometry) (v w : Volume) (i count : ℕ) : Type 0 where
   pub bodies : (x : ℕ) → body w x ≡ body v x
   pub rest : (x : ℕ) → x ≢ i → node w x ≡ node v x

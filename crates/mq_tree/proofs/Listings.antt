@@ -201,8 +201,8 @@ unlisted-less (n ∷ v) (b ∷ seen) (suc i) low size new =
     turn : (a b c : ℕ) → a + (b + c) ≡ b + (a + c)
     turn a b c = omega arith
 
--- The lines that are left are enough: for what waits, and for the names of what was not listed. What was listed has
--- earlier paths.
+-- The lines that are left are enough: for what waits, and for the names of what was not listed. What was
+-- listed has earlier paths.
 record Ready (v : Volume) (count : ℕ) (pending : List PendingItem) (seen : List Bool) : Type 0 where
   waits : (s : PendingItem) → Contains pending s → Waits v s
   apart : AreApart pending
@@ -282,7 +282,7 @@ ready-more v count s pending seen t r =
       ];
     }
 
--- ---- what the lines tell
+-- ---- what the lines say
 
 record Told (v : Volume) (pending : List PendingItem) (text : List ℕ) : Type 0 where
   paths : List Path

@@ -1,4 +1,5 @@
--- Volumes that keep their form: an entry more or less in a directory, a new inode, one less, and a file with other bytes.
+-- Volumes that keep their form: an entry more or less in a directory, a new inode, one less, and a file
+-- with other bytes.
 use Rattle.std.proofs.Common.{get_or, set, ◌≡◌, ◌≢◌, ℕ, suc, ◌+◌, ◌<◌, ◌≤◌, inl, inr, List, ◌∷◌, ◌++◌, length, replicate, true, refl, sym, ap, subst, ◌∙◌, arith, length-set, length-append}
 use Rattle.std.specs.Prelude.{Option, Some, None, slice_get}
 use Rattle.std.proofs.lemmas.Bool.{cases_eq, cases_lt, true≢false}

@@ -1,4 +1,5 @@
--- What the changes of a volume come to: a new inode with its entry, one that is gone, an entry that moves, other bytes.
+-- What the changes of a volume come to: a new inode with its entry, one that is gone, an entry that moves,
+-- other bytes.
 use Rattle.std.proofs.Common.{get_or, set, ◌≡◌, ◌≢◌, ℕ, zero, suc, ◌+◌, ◌-◌, ◌^◌, ◌<◌, ◌≤◌, inl, inr, List, [], ◌∷◌, ◌++◌, length, take, Bool, true, false, cond, refl, sym, ap, subst, ◌∙◌, arith, length-set}
 use Rattle.std.specs.Prelude.{Option, Some, None, is_some, nat_lt, slice_get, if◌then◌else◌}
 use Rattle.std.proofs.lemmas.Bool.{cases_Bool, cases_eq, cases_lt, le-leb, le-ltb, lt-leb, lt-ltb, true≢false}

@@ -7,7 +7,8 @@ use Rattle.mq_tree.specs.Volume.{Volume, Way, body, find, inode_at, is_used, slo
 use Rattle.mq_tree.proofs.VolumePaths.{AreNames, AreOnce, AreUsed, IsTree, Slots, cases-slot, find-missing, last-step, next-step, nothing-at, one-way, same-things, same-used, slots-names, slots-once, slots-used, thing_at}
 use Rattle.mq_tree.proofs.VolumeMake.{New}
 
--- The entry `e` of slot `k` of `d`, at the end of the way `p`, is `f` in slot `m` of `c`, at the end of `q`.
+-- The entry `e` of slot `k` of `d`, at the end of the way `p`, is `f` in slot `m` of `c`, at the end of
+-- `q`.
 pub record IsMoved (v w : Volume) (d k : ℕ) (e : Entry) (p : Way) (c m : ℕ) (f : Entry) (q : Way) : Type 0 where
   pub there : slot v d k ≡ Some e
   pub here : slot w c m ≡ Some f

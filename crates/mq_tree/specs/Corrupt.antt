@@ -20,7 +20,8 @@ use Rattle.mq_tree.specs.declared.corrupt.MountRefusal.TheVariants.{Corrupt, Out
 
 -- ---- what lies in a zone
 
--- The block at this place of an inode lies in a zone, and so does the block of pointers in which its pointer stands.
+-- The block at this place of an inode lies in a zone, and so does the block of pointers in which its
+-- pointer stands.
 pub record IsPlace (g : Geometry) (s : Stored) (i place b : ℕ) : Type 0 where
   pub is : b ≡ pointer_to s (the_inode g s i) place
   pub inside : IsInZone g b

@@ -94,8 +94,8 @@ IsAddRoomFault g q v parent fault = (IsFullDir g q v parent × (fault ≡ TooBig
 abbrev pub IsAddFull : Geometry → (queue : ℕ) → Volume → Path → Fault → Type 0
 IsAddFull g q v path fault = (m : IsMissing v path) × IsAddRoomFault g q v m.parent fault
 
--- Nothing is in the way of an entry that moves, but the directory has no room for it. Within one directory there
--- is always room.
+-- Nothing is in the way of an entry that moves, but the directory has no room for it. Within one directory
+-- there is always room.
 pub record IsMoveFull (g : Geometry) (q : ℕ) (v : Volume) (from to : Path) (fault : Fault) : Type 0 where
   pub some : from ≢ []
   pub old : Thing

@@ -53,7 +53,7 @@ pointed g q v i = if nat_eq (length (node v i).blocks) 12 then with_pointers v i
 abbrev pub one_more : Geometry → (queue : ℕ) → Volume → ℕ → Volume
 one_more g q v i = with_block v i (first_of v (order g q))
 
--- an inode with so many blocks more, each the first that is free then
+-- an inode with `count` blocks more, each the first that is free then
 abbrev pub grown : Geometry → (queue : ℕ) → Volume → ℕ → (count : ℕ) → Volume
 grown g q v i zero = v
 grown g q v i (suc count) = grown g q (one_more g q (pointed g q v i) i) i count

@@ -58,7 +58,7 @@ size_of Free count = 0
 size_of (File bytes) count = length bytes
 size_of (Dir slots) count = 4096 * count
 
--- so many numbers, which are 0 past the end of the list
+-- `count` numbers, which are 0 past the end of the list
 unfoldable pub padded : (count : ℕ) → List ℕ → List ℕ
 padded zero xs = []
 padded (suc count) [] = 0 ∷ padded count []

@@ -38,7 +38,7 @@ head_of (Dir slots) = codes "d "
 abbrev pub line_of : (path : List ℕ) → Body → List ℕ
 line_of path b = head_of b ++ path ++ codes "\n"
 
--- The lines of these items and of all below them, for no more than so many: after each that of its own.
+-- The lines of these items and of all below them, for at most `count`: after each item come those below it.
 unfoldable pub lines : (count : ℕ) → Volume → List Item → List ℕ
 lines zero v todo = []
 lines (suc count) v [] = []

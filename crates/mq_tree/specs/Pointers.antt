@@ -10,7 +10,7 @@ abbrev pub IsRight : Geometry → (wanted : Bool) → ℕ → Type 0
 IsRight g true p = IsInZone g p
 IsRight g false p = p ≡ 0
 
--- the twelve in the inode, where it has so many blocks
+-- the twelve in the inode, where it has `count` blocks
 abbrev pub AreNear : Geometry → Inode → (count : ℕ) → Type 0
 AreNear g n count = (k : ℕ) → k < 12 → IsRight g (nat_lt k count) (slice_index n.direct k)
 

@@ -146,7 +146,7 @@ resized g q v i bytes =
 
 -- ---- what a request comes to
 
--- It answers and changes nothing; or it needs so many new blocks, and where these are free it
+-- It answers and changes nothing; or it needs this number of new blocks, and where these are free it
 -- makes this volume.
 pub data Verdict : Type 0 where
   Says : Reply → Verdict
@@ -289,6 +289,7 @@ act g q v (Stat p) = asks v stat_in (target v (way p))
 abbrev pub verdict : Geometry → (queue : ℕ) → Volume → Request → Verdict
 verdict g q v r = if is_named r then act g q v r else refused BadName
 
+-- what a request comes to: its reply, and the volume after it
 pub record RequestOutcome : Type 0 where
   pub reply : Reply
   pub next : Volume

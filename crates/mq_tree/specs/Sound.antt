@@ -6,7 +6,7 @@ use Rattle.mq_layout.specs.Places.{file_limit, inodes_of}
 use Rattle.mq_layout.specs.Slots.{Entry, IsEntry}
 use Rattle.mq_tree.specs.Volume.{Body, Free, File, Dir, Node, Volume, node, body, is_used, slot, inode_at, Way, Use, block_in}
 
--- how many blocks so many bytes take
+-- how many blocks this number of bytes takes
 abbrev pub blocks_for : ℕ → ℕ
 blocks_for size = (size + 4095) / 4096
 
@@ -17,7 +17,7 @@ AreBytes bytes = (k : ℕ) → slice_index bytes k < 256
 abbrev pub AreEntries : List (Option Entry) → Type 0
 AreEntries slots = (k : ℕ) (e : Entry) → slice_index_or slots k None ≡ Some e → IsEntry e
 
--- A body over so many blocks. A file has just the blocks that its bytes take, and at most 4,243,456
+-- A body over this number of blocks. A file has just the blocks that its bytes take, and at most 4,243,456
 -- bytes, which is 1,036 blocks. A directory has 15 slots in each block.
 abbrev pub IsBody : Body → ℕ → Type 0
 IsBody Free count = count ≡ 0

@@ -24,7 +24,8 @@ Volume = List Node
 abbrev pub free_node : Node
 free_node = record { body = Free; blocks = []; indirect = None }
 
--- a file with so many of its blocks, and these bytes
+-- A file with these bytes and the first `count` of its blocks. Its block of pointers stays only where
+-- `count` is over 12.
 abbrev pub cut_node : Node → (count : ℕ) → List ℕ → Node
 cut_node n count bytes = record { body = File bytes; blocks = take count n.blocks; indirect = if nat_lt 12 count then n.indirect else None }
 

@@ -41,7 +41,8 @@ pub record Walked (v : Volume) (count : ℕ) (seen : List Bool) (order : List �
   pub listing : IsOrder count seen order
   pub walk : IsWalk v seen (IsLooked order done part)
 
--- A walk to its end: what was seen is what paths lead to, and no two slots of such directories name one inode.
+-- A walk to its end: what was seen is what paths lead to, and no two slots of such directories name one
+-- inode.
 pub record IsWholeWalk (v : Volume) (seen : List Bool) : Type 0 where
   pub reached : (i : ℕ) → is_seen seen i ≡ true → (way : Way) × (inode_at v way ≡ Some i)
   pub all : (way : Way) (i : ℕ) → inode_at v way ≡ Some i → is_seen seen i ≡ true

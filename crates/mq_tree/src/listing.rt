@@ -102,7 +102,8 @@ impl Tree {
         Ok(())
     }
 
-    /// A line for each path, in the order of lists of names: `d PATH` for a directory, `f SIZE PATH` for a file.
+    /// A line for each path, in the order of lists of names: `d PATH` for a directory, `f SIZE PATH` for a
+    /// file.
     pub fn list_text(&self, alloc: Global) -> Result<Vec<u8>, OutOfMemory>
         ensures { IfOk result (λ text. text.items ≡ list_text self.now) }
     {

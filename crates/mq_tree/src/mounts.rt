@@ -26,16 +26,16 @@ use crate::walk::{check_reached, walk_all};
 use mq_blocks::{Block, Geometry};
 use std::alloc::Global;
 
-/// Serves proofs alone: a block's type tells nothing of its bytes outside `mq_blocks`, so only a slice that is
-/// passed says of each of them that it is one.
+/// Serves proofs alone: a block's type says nothing of its bytes outside `mq_blocks`, so only a slice that
+/// is passed says of each of them that it is one.
 fn are_bytes(bytes: &[u8])
     ensures { AreBytes bytes.now }
 {
     let _bytes = bytes;
 }
 
-/// Serves proofs alone: no form says of all items of a slice what a call says of one, so each stored block is
-/// passed once.
+/// Serves proofs alone: no form says of all items of a slice what a call says of one, so each stored block
+/// is passed once.
 fn are_pages(blocks: &[Option<Block>])
     ensures { ArePages blocks.now }
 {
@@ -74,7 +74,8 @@ fn read_volume(
     Ok(contents)
 }
 
-/// The tree of the home blocks of a drive, of which an absent one is zeros, as are those past the last item.
+/// The tree of the home blocks of a drive, of which an absent one is zeros, as are those past the last
+/// item.
 pub fn mount(
     alloc: Global,
     geometry: Geometry,

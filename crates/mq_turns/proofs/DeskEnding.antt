@@ -93,7 +93,8 @@ pub found : {A : Type 0} (l : List (Option A)) (k : ℕ) (x : A) (o : Option A) 
 found l k x o y e f n = let p : Some x ≡ o = some-injective _ _ (sym e ∙ f) in cc
 
 module _ {M P Q R E : Type 0} (μ : Meaning P Q R E) (o : Opening P Q R) (chairs : ℕ) where
-  -- where one view stands for all chairs and holds nothing, every value is at home and is what the history says
+  -- where one view stands for all chairs and holds nothing, every value is at home and is what the history
+  -- says
   pub record Home (v : ChairView P Q R E) (ws : List ℕ) (xs : List (Option (Item M P Q R E))) : Type 0 where
     pub known : Known P Q R E
     pub opening : known.opening ≡ o

@@ -1,4 +1,4 @@
--- Each kind of step keeps the rule, layer by layer, and tells what it tells.
+-- Each kind of step keeps the rule, layer by layer, and shows what is stated of it.
 use Rattle.std.proofs.Common.{◌≡◌, ℕ, zero, suc, ◌+◌, ◌*◌, ◌%◌, ◌^◌, ◌<◌, Bool, List, [], ◌∷◌, length, get_or, set, sym, refl, ap, ◌∙◌, subst, arith, Option, Some, None, IfSome, length-set, get_or-set_other, get_or-set_same, mod-eq_of_lt}
 use Rattle.std.specs.Option.{option_map}
 use mathlib.Core.Logic.{dite}
@@ -38,7 +38,7 @@ module _ {M P Q R E : Type 0} (μ : Meaning P Q R E) (o : Opening P Q R) (chairs
   at_hand : (T : Sat M P Q R E → Type 0) (me : Sat M P Q R E) (c : List (ℕ × Option (Item M P Q R E))) → me.1 ≡ c → T (me.0, c) → T me
   at_hand T me c e t = let F : List (ℕ × Option (Item M P Q R E)) → Type 0 = λ cs. T (me.0, cs) in subst F (sym e) t
 
-  -- what the rule tells a chair
+  -- what the rule shows a chair
   pub sees : (K : Known P Q R E) (s : Now M P Q R E) (id : ℕ) (v : ChairView P Q R E) → K.opening ≡ o → Turns μ (turn_at o) K s → Numbers μ chairs K s → Words μ K s → get_elem? s.views id ≡ some v → 0 < v.parts → Sees μ v K
   sees K s id v is r n x at live =
       let c = r.each_chair id v at in

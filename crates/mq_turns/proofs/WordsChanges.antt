@@ -57,7 +57,8 @@ module _ {P Q R E : Type 0} (μ : Meaning P Q R E) (o : Opening P Q R) where
   holds_one t v mine u lt is = subst (λ w. 0 < times (slot_of o w) v.held) (turn_is t u is) mine
 
 module _ {M P Q R E : Type 0} (μ : Meaning P Q R E) (o : Opening P Q R) (chairs : ℕ) where
-  -- a step on a word that is no turn's and not the counter, by a chair that holds what it is about: the rule holds by what is known then
+  -- a step on a word that is no turn's and not the counter, by a chair that holds what it is about: the
+  -- rule holds by what is known then
   pub changes : AreLaws μ → (about : Turn → Bool) (K L : Known P Q R E) (s : Now M P Q R E) (id : ℕ) (v w : ChairView P Q R E) (words' : List ℕ) → K.opening ≡ o → Turns μ (turn_at o) K s → Numbers μ chairs K s → Words μ K s → get_elem? s.views id ≡ some v
       → length s.homes ≡ slots o → μ.ok L → ((t : Turn) → about t ≡ false → Stay μ t K L) → HoldsAll μ K.opening about v → L.log ≡ K.log
       → length words' ≡ length s.words → ((k : ℕ) → k ≤ length s.homes → get_or words' k 0 ≡ get_or s.words k 0) → Told μ K L s v w words'

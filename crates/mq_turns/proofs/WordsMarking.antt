@@ -1,4 +1,4 @@
--- The steps on marks and base, and notices, keep the rule and tell what they tell.
+-- The steps on marks and base, and notices, keep the rule and show what is stated of them.
 use Rattle.std.proofs.Common.{◌≡◌, ℕ, suc, ◌+◌, ◌-◌, ◌<◌, ◌≤◌, eqb, min, Bool, true, false, List, ◌∷◌, length, get_or, set, sym, refl, ap, ◌∙◌, subst, arith, inl, inr, Option, Some, length-set, get_or-set_other, get_or-set_same}
 use Rattle.std.proofs.lemmas.Bool.{cases_Bool, eq-eqb, ne_eqb}
 use mathlib.Core.Logic.{dite}

@@ -25,8 +25,9 @@ module _ {P Q R E : Type 0} (μ : Meaning P Q R E) where
     pub sides : (q : ℕ) (x : Q) → slice_get o.sides q ≡ Some x → μ.side q (opened o) x
     pub root : μ.root (opened o) o.root
 
-  -- What a desk that has ended shows: there is one history, which is legal. The values are what it says, each number is one
-  -- draw of a chair, what the chairs read was the machine's at its number, and along each chair's groups the numbers are in order.
+  -- What a desk that has ended shows: there is one history, which is legal. The values are what it says,
+  -- each number is one draw of a chair, what the chairs read was the machine's at its number, and along
+  -- each chair's groups the numbers are in order.
   pub record DeskEnded (o : Opening P Q R) (views : List (ChairView P Q R E)) (pages : List P) (sides : List Q) (root : R) (next base : ℕ) : Type 0 where
     pub known : Known P Q R E
     pub opening : known.opening ≡ o
@@ -42,7 +43,8 @@ module _ {P Q R E : Type 0} (μ : Meaning P Q R E) where
     pub once : (n : ℕ) → o.base < n → n ≤ next → times n (drawn_of views) ≡ 1
     pub read : Each (λ r. μ.ok r.1 × Grows r.1 known × μ.fits r.0 r.1) (read_of views)
     pub ordered : Each (IsInOrder μ) views
-    -- each number that isn't done is at or above its queue's mark, and those up to which a chair knew all to be done are
+    -- each number that isn't done is at or above its queue's mark, and those up to which a chair knew all
+    -- to be done are
     pub marked : Marked μ known
     pub done : Each (λ v. DoneTo μ v.reading.done known) views
     -- no chair knew of a greater base

@@ -1,6 +1,6 @@
--- The rule of the desk, and what each step tells.
--- Word k, for each slot k, is 1 while a chair holds the turn of the slot and else 0. The word after these is the greatest number
--- drawn, then comes a mark for each queue, and last the base.
+-- The rule of the desk, and what each step shows.
+-- Word k, for each slot k, is 1 while a chair holds the turn of the slot and else 0. The word after these
+-- is the greatest number drawn, then comes a mark for each queue, and last the base.
 use Rattle.std.specs.Prelude.{◌≡◌, ◌≢◌, ◌⊎◌, ℕ, zero, suc, ◌+◌, ◌-◌, ◌*◌, ◌/◌, ◌^◌, ◌<◌, ◌≤◌, nat_lt, max, Bool, true, cond, List, [], ◌∷◌, ◌++◌, length, slice_index, Option, Some, None}
 use mathlib.Core.Option.{some}
 use lib.ListN.{get_elem?}
@@ -46,7 +46,7 @@ abbrev pub last_of : {E : Type 0} → ℕ → List (ℕ × E) → ℕ
 last_of n [] = n
 last_of n (d ∷ ds) = max d.0 (last_of n ds)
 
--- how many numbers one of so many chairs may draw
+-- how many numbers one of `chairs` chairs may draw
 abbrev pub allotment : ℕ → ℕ
 allotment chairs = 2 ^ 62 / chairs
 
@@ -142,7 +142,7 @@ module _ {P Q R E : Type 0} (μ : Meaning P Q R E) where
   abbrev pub Stay : Turn → Known P Q R E → Known P Q R E → Type 0
   Stay = Stays μ.touches μ.lies
 
-  -- what a chair can tell of all that is known by now, whatever the others did
+  -- what holds for a chair of all that is known by now, whatever the others did
   pub record Sees (v : ChairView P Q R E) (K : Known P Q R E) : Type 0 where
     pub opening : v.opening ≡ Some K.opening
     pub ok : μ.ok K
@@ -153,8 +153,8 @@ module _ {P Q R E : Type 0} (μ : Meaning P Q R E) where
     pub marked : Marked μ K
     pub reader : Reader μ K v.reading
 
-  -- what a draw asks: whatever is known by now, the chair holds all that the entry changes, the entry may be drawn, and the
-  -- queue's mark is not above its number
+  -- what a draw asks: whatever is known by now, the chair holds all that the entry changes, the entry may
+  -- be drawn, and the queue's mark is not above its number
   pub record Covers (e : E) (v : ChairView P Q R E) : Type 0 where
     pub held : (K : Known P Q R E) → Sees v K → (t : Turn) → IsTurn K.opening t → μ.touches K.log e t ≡ true → 0 < times (slot_of K.opening t) v.held
     pub may : (K : Known P Q R E) → Sees v K → newest K < 2 ^ 63 → μ.may e K
@@ -170,8 +170,8 @@ module _ {P Q R E : Type 0} (μ : Meaning P Q R E) where
     pub drawn : Each (λ d. μ.group d.1 < μ.group e) v.drawn
     pub read : Each (λ r. μ.group r.0 < μ.group e) v.read
 
-  -- a group of a session, as a draw with its number or as a read at a number, comes after another of that session: its number is
-  -- not below the other's, and above it where the later one is a draw
+  -- a group of a session, as a draw with its number or as a read at a number, comes after another of that
+  -- session: its number is not below the other's, and above it where the later one is a draw
   abbrev pub DrawAfterDraw : ℕ × E → ℕ × E → Type 0
   DrawAfterDraw d before = (μ.group before.1 < μ.group d.1) × (before.0 < d.0)
 
@@ -184,8 +184,8 @@ module _ {P Q R E : Type 0} (μ : Meaning P Q R E) where
   abbrev pub ReadAfterRead : E × Known P Q R E → E × Known P Q R E → Type 0
   ReadAfterRead r before = (μ.group before.0 < μ.group r.0) × (newest before.1 ≤ newest r.1)
 
-  -- what was drawn and read is of the session, and of each two the one comes after the other: along the session's groups the
-  -- numbers never fall, a draw's is above all before it, and no group stands twice
+  -- what was drawn and read is of the session, and of each two the one comes after the other: along the
+  -- session's groups the numbers never fall, a draw's is above all before it, and no group stands twice
   pub record InOrder (session : ℕ) (drew : List (ℕ × E)) (read : List (E × Known P Q R E)) : Type 0 where
     pub drew_own : Each (λ d. μ.session d.1 ≡ session) drew
     pub read_own : Each (λ r. μ.session r.0 ≡ session) read
@@ -236,8 +236,8 @@ module _ {M P Q R E : Type 0} (μ : Meaning P Q R E) where
   Stands Root K (item.Side q) = ⊥
   Stands Root K (item.Root r) = μ.root K r
 
-  -- turns: each is held by one chair at most, and its value is at home where none holds it; between the taking of the word
-  -- and of the slot, and between the laying and the freeing, the slot is in hand
+  -- turns: each is held by one chair at most, and its value is at home where none holds it; between the
+  -- taking of the word and of the slot, and between the laying and the freeing, the slot is in hand
   module _ (turn : ℕ → Turn) where
     pub record Turned (K : Known P Q R E) (s : Now M P Q R E) (k : ℕ) : Type 0 where
       pub word : slice_index s.words k ≡ holders k s.views
@@ -260,7 +260,8 @@ module _ {M P Q R E : Type 0} (μ : Meaning P Q R E) where
     pub bounds : (K.opening.base ≤ 2 ^ 62) × (0 < chairs)
     pub each_chair : (j : ℕ) (v : ChairView P Q R E) → get_elem? s.views j ≡ some v → Drawer μ (allotment chairs) K v
 
-  -- the other words: the queues' marks and the base; what the chairs read of them, and each charge stands in one view
+  -- the other words: the queues' marks and the base; what the chairs read of them, and each charge stands
+  -- in one view
   pub record Words (K : Known P Q R E) (s : Now M P Q R E) : Type 0 where
     pub wide : length s.words ≡ suc (suc (length s.homes + length K.opening.sides))
     pub marks : (q : ℕ) → q < length K.opening.sides → slice_index s.words (suc (length s.homes + q)) ≡ mark_of q K.claims
@@ -274,7 +275,7 @@ module _ {M P Q R E : Type 0} (μ : Meaning P Q R E) where
   abbrev pub Ruled : Opening P Q R → ℕ → Now M P Q R E → Type 0
   Ruled o chairs s = (K : Known P Q R E) × (K.opening ≡ o) × Turns (turn_at o) K s × Numbers chairs K s × Words K s
 
-  -- ---- what each step tells
+  -- ---- what each step shows
 
   abbrev pub taken : At M P Q R E → Sat M P Q R E → ℕ → Sat M P Q R E → Type 0
   taken st me n me' =

@@ -35,11 +35,12 @@ module _ {P Q R E : Type 0} where
   abbrev pub read_first : ℕ → Reading P Q R E
   read_first base = record { swept = 0; low = 0; done = base; base = base; pages = []; answers = []; charged = [] }
 
-  -- a sweep over so many queues has passed n of them, whose numbers up to `low` are done
+  -- a sweep over `queues` queues has passed n of them, whose numbers up to `low` are done
   abbrev pub passed : ℕ → ℕ → ℕ → Reading P Q R E → Reading P Q R E
   passed queues n low r = record r { swept = n; low = low; done = cond (nat_le queues n) (max r.done low) r.done }
 
-  -- all numbers of the queue up to n are done: this begins a sweep at the first queue, and carries one on at the next
+  -- all numbers of the queue up to n are done: this begins a sweep at the first queue, and carries one on
+  -- at the next
   abbrev pub shown : ℕ → ℕ → ℕ → Reading P Q R E → Reading P Q R E
   shown queues q n r = cond (nat_eq q 0) (passed queues 1 n r) (cond (nat_eq q r.swept) (passed queues (suc q) (min r.low n) r) r)
 

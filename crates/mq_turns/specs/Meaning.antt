@@ -22,7 +22,8 @@ module _ {P Q R E : Type 0} where
   abbrev pub newest : Known P Q R E → ℕ
   newest K = K.opening.base + length K.log
 
-  -- one thing more is known: an entry drawn, a queue's numbers done, a home write ended, the base raised, a fault charged
+  -- one thing more is known: an entry drawn, a queue's numbers done, a home write ended, the base raised, a
+  -- fault charged
   abbrev pub drawn : E → Known P Q R E → Known P Q R E
   drawn e K = record K { log = e ∷ K.log }
 
@@ -55,8 +56,8 @@ module _ {P Q R E : Type 0} where
 abbrev pub Touch : Type 0 → Type 0
 Touch E = List E → E → Turn → Bool
 
--- Of the values at the opening and a home write, by its block and number: it is about what lies under the turn, the page or the
--- port that has the block.
+-- Of the values at the opening and a home write, by its block and number: it is about what lies under the
+-- turn, the page or the port that has the block.
 abbrev pub Lie : Type 0 → Type 0 → Type 0 → Type 0
 Lie P Q R = Opening P Q R → ℕ × ℕ → Turn → Bool
 
@@ -94,8 +95,8 @@ pub record Meaning (P Q R E : Type 0) : Type 1 where
   -- the entry, which is not drawn, has the machine's replies and writes on the map at the newest number
   pub fits : E → Known P Q R E → Type 0
 
--- The laws of what a machine says: an entry changes its own side, a draw keeps the history legal, and a value that nothing
--- touched is what it was.
+-- The laws of what a machine says: an entry changes its own side, a draw keeps the history legal, and a
+-- value that nothing touched is what it was.
 pub record AreLaws {P Q R E : Type 0} (μ : Meaning P Q R E) : Type 0 where
   pub own : (log : List E) (e : E) → μ.touches log e (Side (μ.queue e)) ≡ true
   pub ok_drawn : (e : E) (K : Known P Q R E) → μ.ok K → μ.may e K → μ.ok (drawn e K)

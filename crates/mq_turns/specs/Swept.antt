@@ -19,20 +19,22 @@ module _ {P Q R E : Type 0} where
   abbrev pub after_count : ℕ → ChairView P Q R E → ChairView P Q R E
   after_count n v = record v { seen = n; reading = record v.reading { swept = 0; low = 0 } }
 
-  -- a sweep over so many queues has passed the first q of them, whose numbers up to n are done; behind the last queue all numbers
-  -- up to n are
+  -- a sweep over `queues` queues has passed the first q of them, whose numbers up to n are done; behind the
+  -- last queue all numbers up to n are
   pub record HasPassed (queues q n : ℕ) (r : Reading P Q R E) : Type 0 where
     pub passed : 0 < q → (r.swept ≡ q) × (n ≤ r.low)
     pub ended : 0 < q → queues ≤ q → n ≤ r.done
 
 module _ {P Q R E : Type 0} (μ : Meaning P Q R E) where
-  -- these are marks of the first queues, the last one's first, as each was at some time after the chair had read n
+  -- these are marks of the first queues, the last one's first, as each was at some time after the chair had
+  -- read n
   abbrev pub AreMarks : ℕ → ChairView P Q R E → List ℕ → Type 0
   AreMarks n v [] = Unit {0}
   AreMarks n v (m ∷ ms) = ((K : Known P Q R E) × (mark_of (length ms) K.claims ≡ m) × Sees μ (after_count n v) K) × AreMarks n v ms
 
-  -- The chair has read the counter, and then the marks of the first q of so many queues. `low` is the least of the counter and
-  -- the numbers just below these marks, and all numbers of these queues up to it are done. Nothing else has changed.
+  -- The chair has read the counter, and then the marks of the first q of `queues` queues. `low` is the
+  -- least of the counter and the numbers just below these marks, and all numbers of these queues up to it
+  -- are done. Nothing else has changed.
   pub record Sweeping (queues q low : ℕ) (v w : ChairView P Q R E) : Type 0 where
     pub counter : ℕ
     pub marks : List ℕ
@@ -45,8 +47,9 @@ module _ {P Q R E : Type 0} (μ : Meaning P Q R E) where
     pub kept : (v.reading.done ≤ reading.done) × (reading.base ≡ v.reading.base) × (reading.pages ≡ v.reading.pages) × (reading.answers ≡ v.reading.answers) × (reading.charged ≡ v.reading.charged)
     pub passes : HasPassed queues q low reading
 
-  -- The chair has read the counter and then each mark. The front is the least of the counter and the numbers just below the
-  -- marks, and the chair knows that all numbers up to it are done. Nothing else has changed.
+  -- The chair has read the counter and then each mark. The front is the least of the counter and the
+  -- numbers just below the marks, and the chair knows that all numbers up to it are done. Nothing else has
+  -- changed.
   pub record AfterMarks (o : Opening P Q R) (front : ℕ) (v w : ChairView P Q R E) : Type 0 where
     pub sweep : Sweeping (length o.sides) (length o.sides) front v w
     pub done : (K : Known P Q R E) → Sees μ w K → DoneTo μ front K

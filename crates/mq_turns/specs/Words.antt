@@ -1,4 +1,4 @@
--- The steps on marks and base, and what a chair notes: what each asks and tells.
+-- The steps on marks and base, and what a chair notes: what each asks and shows.
 use Rattle.std.specs.Prelude.{◌≡◌, ℕ, suc, ◌-◌, ◌<◌, ◌≤◌, nat_eq, min, Bool, true, false, ◌∷◌}
 use Rattle.mq_turns.specs.Lists.{times}
 use Rattle.mq_turns.specs.Meaning.{Meaning, newest, claimed, written, raised, charged}
@@ -75,7 +75,7 @@ module _ {P Q R E : Type 0} (μ : Meaning P Q R E) where
   MayNote (notice.Charge c) v = (K : Known P Q R E) → Sees μ v K → μ.ok (charged c K) × (0 < times (slot_of K.opening c.port) v.held)
   MayNote (notice.Front n) v = (K : Known P Q R E) → Sees μ v K → DoneTo μ n K
 
-  -- ---- what each step tells
+  -- ---- what each step shows
 
   module _ {M : Type 0} where
     abbrev pub peeked : At M P Q R E → Sat M P Q R E → ℕ → Sat M P Q R E → Type 0

@@ -1,5 +1,5 @@
 //! A desk of turns: pages, sides and the root, each held by one chair at a time, and a counter from
-//! which chairs draw numbers without waiting, with marks that tell which numbers are done.
+//! which chairs draw numbers without waiting, with marks that show which numbers are done.
 #![tactic(auto)]
 
 mod calls;

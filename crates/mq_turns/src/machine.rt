@@ -1,4 +1,4 @@
-// What a desk is told of the values that lie on it.
+// What a desk requires of the values that lie on it.
 
 /// The values of a desk, the entries of its history, and what they mean.
 pub trait Machine {

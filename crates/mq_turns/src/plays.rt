@@ -1,4 +1,4 @@
-// What each step on the table tells, and how views are cut and joined.
+// What each step on the table shows, and how views are cut and joined.
 ghost use Rattle.std.specs.Prelude.{◌≡◌, Option, Some, None};
 ghost use Rattle.mq_turns.specs.Desk.{taken, settled, reached, freed, looked, drew_one, blank, others, seated, noted, heard, joined};
 ghost use Rattle.mq_turns.specs.Words.{peeked, cleared, based, raised_to, noticed};

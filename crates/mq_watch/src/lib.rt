@@ -1,4 +1,4 @@
-//! A port over a port, which tells a watch of each changing call.
+//! A port over a port, which reports each changing call to a watch.
 #![tactic(auto)]
 
 mod port;

@@ -1,4 +1,4 @@
-// A port over a port, which tells a watch of each changing call.
+// A port over a port, which reports each changing call to a watch.
 ghost use Rattle.std.specs.Prelude.{◌≡◌};
 
 use crate::{Call, Watch};
@@ -6,8 +6,8 @@ use mq_blocks::{Block, Lba};
 use mq_drive::{HomeStep, Off, Port, Role, Step};
 use mq_nvme::Entry;
 
-/// A port that tells a watch of each changing call before it passes the call on. A step counts as a
-/// changing call even if it turns out idle; the watch isn't told of reads. Its state and its faults are
+/// A port that reports each changing call to a watch before it passes the call on. A step counts as a
+/// changing call even if it turns out idle; reads aren't reported. Its state and its faults are
 /// those of the port below, so that each call has the contract of `Port` by what the port below does.
 #[derive(Drop)]
 pub struct WatchPort<'w, P: Port, W: Watch> {
@@ -30,7 +30,7 @@ impl<'w, P: Port, W: Watch> WatchPort<'w, P, W> {
         self.port
     }
 
-    // Tells the watch of a call of this port.
+    // Reports a call of this port to the watch.
     fn tell(&self, call: Call) {
         self.watch.before(self.port.role(), call);
     }

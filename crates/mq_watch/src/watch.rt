@@ -1,4 +1,4 @@
-// Who is told of the calls of a port.
+// To whom the calls of a port are reported.
 use mq_drive::Role;
 
 /// A changing call of a port.

@@ -30,7 +30,7 @@ pub step : {X : Type 0} (now : X → Text) (made : List Text → App) (rule : Te
 step now made rule more items k d low old new is adds =
     adds ∙ ap (λ (a : App). with_rule a (rule (now (get_or items k d)))) is ∙ more (map now (take k items)) (now (get_or items k d)) ∙ ap made (sym (map_take_more now items k d low))
 
--- each is a command of which `clap` tells exactly what it takes
+-- each is a command of which `clap` states exactly what it takes
 pub simple_and_free : (v : Verb) → is_simple_and_free (app_for v) ≡ true
 unfolding app_for
 simple_and_free Blocks = refl

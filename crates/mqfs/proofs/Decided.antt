@@ -1,5 +1,5 @@
 -- What the files hold decides the status of each command.
-use Rattle.std.proofs.Common.{◌≡◌, ◌≢◌, ◌⊎◌, inl, inr, ap, ◌<◌, ◌≤◌, length, ℕ, List, Option, Some, None, Ok, Err, sym, ◌∙◌, subst}
+use Rattle.std.proofs.Common.{◌≡◌, ◌≢◌, ◌⊎◌, inl, inr, ap, ◌<◌, ◌≤◌, length, ℕ, List, Option, Some, None, Ok, Err, ◌∙◌}
 use Rattle.std.specs.Prelude.{option_map}
 use Rattle.mq_blocks.specs.Descriptor.{Descriptor}
 use Rattle.mq_blocks.specs.Geometry.{queues_of}
@@ -7,10 +7,9 @@ use Rattle.mq_blocks.specs.Journal.{AreWhole}
 use Rattle.mq_blocks.specs.declared.geometry.Geometry.{Geometry}
 use Rattle.mq_blocks.specs.declared.geometry.GeometryRefusal.{GeometryRefusal}
 use Rattle.mq_commands.specs.Commands.{RefusesNumbers, numbers_of}
-use Rattle.mq_commands.specs.RunsScripts.{HoldBadScript, HoldScripts}
+use Rattle.mq_run_command.specs.RunsScripts.{HoldBadScript, HoldScripts}
 use Rattle.mq_commands.specs.declared.formatting.Numbers.{Numbers}
-use Rattle.mq_ending.specs.Ending.{IsNotLoaded, IsNotSaved, IsUnlessFailed, load_failed, load_memory, load_too_long, save_failed, save_memory}
-use Rattle.mq_ending.proofs.Ending.{still-fault, still-memory}
+use Rattle.mq_ending.specs.Ending.{IsUnlessFailed}
 use Rattle.mq_image.specs.Drives.{IsRead}
 use Rattle.mq_image.specs.Faults.{HasFault}
 use Rattle.mq_image.specs.File.{DriveImage}
@@ -19,22 +18,15 @@ use Rattle.mq_image_run.specs.Limits.{AreWithin, IsFirstAbove}
 use Rattle.mq_image_run.specs.declared.options.RunOptions.{RunOptions}
 use Rattle.mq_images.specs.Standing.{HasNoVolume, Reads, RefusesDrive, StandsFor}
 use Rattle.mq_images.specs.Views.{view_of}
-use Rattle.mq_outside.specs.Outside.{FilesState, Held, Holds, Tells}
+use Rattle.mq_outside.specs.Outside.{Held, Tells}
 use Rattle.mq_recover.specs.declared.refusal.ImageFault.{ImageFault}
 use Rattle.mq_script.specs.Scripts.{Script}
-use Rattle.mq_text.specs.Refusals.{RefusesText}
-use Rattle.mq_text.specs.declared.item.BlockItem.{BlockItem}
-use Rattle.mq_text.specs.declared.refusal.BlockTextCause.{BlockTextCause}
-use Rattle.mq_text.proofs.TextWhole.{good_or_refused}
 use Rattle.mq_tree.specs.Trees.{ReadsAs}
 use Rattle.mq_tree.specs.Volume.{Path, Volume}
 use Rattle.mq_tree.specs.declared.request.Fault.{Fault}
-use Rattle.mq_words.specs.declared.command.BlocksOptions.{BlocksOptions}
 use Rattle.mq_words.specs.declared.command.RunFlags.{RunFlags}
-use Rattle.mqfs.specs.Blocks.{IsBlockText}
-use Rattle.mqfs.specs.Decided.{ChainsDecide, FileDecides, ImageDecides, IsRunnable, NumbersDecide, RecoveryDecides, RunDecides, TextDecides, TreeDecides, VolumeDecides, above_limit, bad_numbers, bad_script, bad_text, good_numbers, good_text, has_chains, has_file, has_no_file, has_standing, has_tree, is_no_image, no_chains, no_drive, no_image, no_standing, no_tree, no_volume, no_volume_there, none_stands, runs_whole, too_many, unreadable}
-use Rattle.mqfs.specs.Says.{SaysOfBlocks, failing, printed, refused, run_options}
-use Rattle.mqfs.specs.Says as blocks_says
+use Rattle.mqfs.specs.Decided.{ChainsDecide, FileDecides, ImageDecides, IsRunnable, NumbersDecide, RecoveryDecides, RunDecides, TreeDecides, VolumeDecides, above_limit, bad_numbers, bad_script, good_numbers, has_chains, has_file, has_no_file, has_standing, has_tree, is_no_image, no_chains, no_drive, no_image, no_standing, no_tree, no_volume, no_volume_there, none_stands, runs_whole, too_many, unreadable}
+use Rattle.mqfs.specs.Says.{failing, run_options}
 
 -- ---- `format`
 
@@ -108,44 +100,3 @@ module _ (image : List ℕ) (names : List (List ℕ)) (options : RunFlags) (o : 
 
   pub run_runs : IsRunnable image names held → (result ≡ 5) ⊎ IsUnlessFailed 0 result
   run_runs runs = elim (runs_or_fails runs) [ inl fails ↦ inl fails.1 | inr ends ↦ inr ends ]
-
--- ---- `blocks`
-
-still_unloaded : (wanted result : ℕ) (file : List ℕ) (old new : FilesState) (status : ℕ) (text : List ℕ) → IsNotLoaded file old new status text → IsUnlessFailed status result → IsUnlessFailed wanted result
-still_unloaded wanted result file old new _ _ (load_failed same rose) ends = still-fault wanted result ends
-still_unloaded wanted result file old new _ _ (load_too_long same over faults takes) ends = still-fault wanted result ends
-still_unloaded wanted result file old new _ _ (load_memory same faults) ends = still-memory wanted result ends
-
-still_unsaved : (wanted result : ℕ) (name : List ℕ) (old new : FilesState) (status : ℕ) (text : List ℕ) → IsNotSaved name old new status text → IsUnlessFailed status result → IsUnlessFailed wanted result
-still_unsaved wanted result name old new _ _ (save_failed other rose taken) ends = still-fault wanted result ends
-still_unsaved wanted result name old new _ _ (save_memory same faults taken) ends = still-memory wanted result ends
-
--- a name holds one text
-one_held : (held : Option Held) (name bytes other : List ℕ) → Tells held name (Some bytes) → Holds held name other → bytes ≡ other
-one_held None name bytes other tells holds = absurd tells
-one_held (Some held) name bytes other tells holds = let same : ◌≡◌ {A = Option (List ℕ)} (Some bytes) (Some other) = sym tells ∙ holds in cc
-
-module _ (file : List ℕ) (options : BlocksOptions) (save : Option (List ℕ)) (old new : FilesState) (result : ℕ) where
-  good_decided : (bytes : List ℕ) (lines : List (List BlockItem)) → Tells old.contents file (Some bytes) → IsBlockText bytes lines → (status : ℕ) (text : List ℕ) → SaysOfBlocks file options save old new status text → IsUnlessFailed status result → IsUnlessFailed 0 result
-  good_decided bytes lines tells is _ _ (printed others rows p mid load good at saves) ends = ends
-  good_decided bytes lines tells is _ _ (refused others line cause load refuses) ends =
-      let same : bytes ≡ others = one_held old.contents file bytes others tells load.holds in
-      absurd (good_or_refused bytes lines line cause is.spelled is.good (subst (λ (l : List ℕ). RefusesText l line cause) (sym same) refuses))
-  good_decided bytes lines tells is status text (blocks_says.not_loaded not) ends = still_unloaded 0 result file old new status text not ends
-  good_decided bytes lines tells is status text (blocks_says.not_saved others rows name mid asks load good not) ends = still_unsaved 0 result name mid new status text not ends
-  good_decided bytes lines tells is _ _ (blocks_says.wants_memory same faults) ends = still-memory 0 result ends
-
-  bad_decided : (bytes : List ℕ) (line : ℕ) (cause : BlockTextCause) → Tells old.contents file (Some bytes) → RefusesText bytes line cause → (status : ℕ) (text : List ℕ) → SaysOfBlocks file options save old new status text → IsUnlessFailed status result → IsUnlessFailed 2 result
-  bad_decided bytes line cause tells bad _ _ (printed others rows p mid load good at saves) ends =
-      let same : bytes ≡ others = one_held old.contents file bytes others tells load.holds in
-      absurd (good_or_refused others rows line cause good.spelled good.good (subst (λ (l : List ℕ). RefusesText l line cause) same bad))
-  bad_decided bytes line cause tells bad _ _ (refused others l c load refuses) ends = ends
-  bad_decided bytes line cause tells bad status text (blocks_says.not_loaded not) ends = still_unloaded 2 result file old new status text not ends
-  bad_decided bytes line cause tells bad status text (blocks_says.not_saved others rows name mid asks load good not) ends =
-      let same : bytes ≡ others = one_held old.contents file bytes others tells load.holds in
-      absurd (good_or_refused others rows line cause good.spelled good.good (subst (λ (l : List ℕ). RefusesText l line cause) same bad))
-  bad_decided bytes line cause tells bad _ _ (blocks_says.wants_memory same faults) ends = still-memory 2 result ends
-
-  pub text_decided : (status : ℕ) (text : List ℕ) → SaysOfBlocks file options save old new status text → IsUnlessFailed status result → (wanted : ℕ) → TextDecides file old.contents wanted → IsUnlessFailed wanted result
-  text_decided status text says ends _ (good_text bytes lines tells is) = good_decided bytes lines tells is status text says ends
-  text_decided status text says ends _ (bad_text bytes line cause tells bad) = bad_decided bytes line cause tells bad status text says ends

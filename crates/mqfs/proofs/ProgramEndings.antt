@@ -1,16 +1,19 @@
--- What the status of the program tells, by what there was to say and how that ended.
+-- What the status of the program reports, by what there was to say and how that ended.
 use Rattle.std.proofs.Common.{◌≡◌, ◌≢◌, ◌⊎◌, inl, inr, ℕ, cond, List, Option, Some, None, sym, ◌∙◌, ap, subst, arith}
 use Rattle.std.specs.Prelude.{nat_eq}
 use Rattle.mq_ending.specs.Ending.{EndsWith, IsUnlessFailed}
 use Rattle.mq_ending.proofs.Ending.{unless_wanting, four-or-six}
 use Rattle.mq_outside.specs.Outside.{FilesState, Rose, SinkState, appended}
+use Rattle.mq_text_run.specs.SaysOfBlocks.{SaysOfBlocks, printed, refused}
+use Rattle.mq_text_run.specs.SaysOfBlocks as blocks_says
 use Rattle.mq_words.specs.Asked.{Asked, Words, asked_of, blocks}
 use Rattle.mq_words.specs.declared.command.BlocksOptions.{BlocksOptions}
+use Rattle.mq_words.specs.declared.refusal.WordsRefusal.{WordsRefusal}
+use Rattle.mq_words.specs.declared.refusal.WordsRefusal.TheVariants as refusal
 use Rattle.mq_ending.specs.Ending.{IsNotLoaded, IsNotSaved, load_failed, load_memory, load_too_long, save_failed, save_memory}
 use Rattle.mqfs.specs.Decided.{Decides, RunsThere}
 use Rattle.mqfs.specs.Program.{AreUnknown, IsDone, IsEndedRun, IsRefusedText, IsSaid, IsStatus, IsToSay, IsTooLong, KeepsNames, TakesFor, no_command, no_memory, of_command, usage_line}
-use Rattle.mqfs.specs.Says.{Says, SaysOfBlocks, printed, refused}
-use Rattle.mqfs.specs.Says as blocks_says
+use Rattle.mqfs.specs.Says.{Says}
 use Rattle.mqfs.proofs.ProgramTold.{BadWords, RunWords, SaysWords, told_words}
 
 -- where the output wants memory, the status is 4 only where it was
@@ -175,3 +178,11 @@ runs_told words files a b result is each asks runs =
 
 pub not_asked : (words : Words) (a : Asked) → asked_of words ≡ None → asked_of words ≡ Some a → ⊥
 not_asked words a none some = let e : ◌≡◌ {A = Option Asked} None (Some a) = sym none ∙ some in cc
+
+-- words that are refused as unknown ask nothing
+pub unknown_asks : (e : WordsRefusal) (words : Words) → e ≡ refusal.Unknown → (e ≡ refusal.OutOfMemory) ⊎ ((e ≡ refusal.Unknown) × (asked_of words ≡ None)) → asked_of words ≡ None
+unknown_asks e words is (inl memory) = absurd (apart (sym is ∙ memory))
+  where
+    apart : refusal.Unknown ≡ refusal.OutOfMemory → ⊥
+    apart same = cc
+unknown_asks e words is (inr other) = other.1

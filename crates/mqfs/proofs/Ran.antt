@@ -2,8 +2,8 @@
 use Rattle.std.proofs.Common.{◌≡◌, ◌⊎◌, inl, inr, ℕ, List, [], ◌∷◌, Option, Some, refl, sym, ◌∙◌, subst, arith}
 use Rattle.mq_commands.specs.Commands.{SaysOfImage, is_image}
 use Rattle.mq_commands.specs.Commands as commands
-use Rattle.mq_commands.specs.RunsScripts.{RefusesRunning, RefusesScript, RefusesScripts, Runs, SaysNothing, no_image, no_run, no_scripts, not_loaded, not_run, ran, refused, too_many, unsaved, wanting}
-use Rattle.mq_commands.specs.RunsScripts as runs
+use Rattle.mq_run_command.specs.RunsScripts.{RefusesRunning, RefusesScript, RefusesScripts, Runs, SaysNothing, no_image, no_run, no_scripts, not_loaded, not_run, ran, refused, too_many, unsaved, wanting}
+use Rattle.mq_run_command.specs.RunsScripts as runs
 use Rattle.mq_ending.specs.Ending.{EndsWith, IsNotLoaded, IsNotSaved, SaysOf, load_failed, load_memory, load_too_long, save_failed, save_memory}
 use Rattle.mq_ending.specs.Ending as ending
 use Rattle.mq_image.specs.File.{DriveImage}

@@ -7,7 +7,7 @@ use Rattle.mq_blocks.specs.Journal.{AreWhole}
 use Rattle.mq_blocks.specs.declared.geometry.Geometry.{Geometry}
 use Rattle.mq_blocks.specs.declared.geometry.GeometryRefusal.{GeometryRefusal}
 use Rattle.mq_commands.specs.Commands.{RefusesNumbers, numbers_of}
-use Rattle.mq_commands.specs.RunsScripts.{HoldBadScript, HoldScripts}
+use Rattle.mq_run_command.specs.RunsScripts.{HoldBadScript, HoldScripts}
 use Rattle.mq_commands.specs.declared.formatting.Numbers.{Numbers}
 use Rattle.mq_image.specs.Drives.{IsRead}
 use Rattle.mq_image.specs.Faults.{HasFault}
@@ -19,21 +19,13 @@ use Rattle.mq_images.specs.Views.{view_of}
 use Rattle.mq_outside.specs.Outside.{Held, Tells}
 use Rattle.mq_recover.specs.declared.refusal.ImageFault.{ImageFault}
 use Rattle.mq_script.specs.Scripts.{Script}
-use Rattle.mq_text.specs.Refusals.{RefusesText}
-use Rattle.mq_text.specs.declared.item.BlockItem.{BlockItem}
-use Rattle.mq_text.specs.declared.refusal.BlockTextCause.{BlockTextCause}
+use Rattle.mq_text_run.specs.SaysOfBlocks.{TextDecides}
 use Rattle.mq_tree.specs.Trees.{ReadsAs}
 use Rattle.mq_tree.specs.Volume.{Path, Volume}
 use Rattle.mq_tree.specs.declared.request.Fault.{Fault}
 use Rattle.mq_words.specs.Asked.{Asked, blocks, cat, dump, format, gen, help, ls, recover, run, version}
 use Rattle.mq_words.specs.declared.command.RunFlags.{RunFlags}
-use Rattle.mqfs.specs.Blocks.{IsBlockText}
 use Rattle.mqfs.specs.Says.{numbers}
-
--- `blocks`: the file holds a text, or bytes that are refused
-pub data TextDecides (file : List ℕ) (held : Option Held) : ℕ → Type 0 where
-  good_text : (bytes : List ℕ) (lines : List (List BlockItem)) → Tells held file (Some bytes) → IsBlockText bytes lines → TextDecides file held 0
-  bad_text : (bytes : List ℕ) (line : ℕ) (cause : BlockTextCause) → Tells held file (Some bytes) → RefusesText bytes line cause → TextDecides file held 2
 
 -- `format`: the numbers are a geometry, or one is out of its range
 pub data NumbersDecide (n : Numbers) : ℕ → Type 0 where

@@ -1,17 +1,5 @@
-pub mod Blocks
-pub mod Causes
-pub mod Commits
-pub mod Cuts
 pub mod Decided
-pub mod Fresh
-pub mod Left
-pub mod Lines
-pub mod Live
-pub mod Parts
 pub mod Played
-pub mod Ports
 pub mod Program
-pub mod Restart
-pub mod Runs
 pub mod Says
 pub mod Ran

@@ -1,17 +1,17 @@
--- What the program says to words, and what its status tells.
+-- What the program says to words, and what its status reports.
 use Rattle.std.specs.Prelude.{◌≡◌, ◌⊎◌, ◌≤◌, ℕ, ◌+◌, ◌*◌, List, [], ◌∷◌, length, Option, Some, None, codes, option_and_then}
-use Rattle.mq_commands.specs.RunsScripts.{Runs}
+use Rattle.mq_run_command.specs.RunsScripts.{Runs}
 use Rattle.mq_ending.specs.Ending.{TakesOver, memory_line}
 use Rattle.mq_outside.specs.Outside.{FilesState, Holds, HoldsOver, OthersSame, SinkState, appended, load_limit}
 use Rattle.mq_text.specs.Refusals.{RefusesText}
 use Rattle.mq_text.specs.declared.item.BlockItem.{BlockItem}
 use Rattle.mq_text.specs.declared.refusal.BlockTextCause.{BlockTextCause}
+use Rattle.mq_text_run.specs.Blocks.{IsBlockText, output_of, refused_line}
+use Rattle.mq_text_run.specs.Cuts.{IsPrefixAt}
+use Rattle.mq_text_run.specs.Left.{SavesLeft}
 use Rattle.mq_words.specs.Asked.{Asked, Words, asked_of, blocks, cat, dump, format, gen, help, ls, recover, run, version}
 use Rattle.mq_words.specs.declared.command.BlocksOptions.{BlocksOptions}
 use Rattle.mq_words.specs.declared.command.RunFlags.{RunFlags}
-use Rattle.mqfs.specs.Blocks.{IsBlockText, output_of, refused_line}
-use Rattle.mqfs.specs.Cuts.{IsPrefixAt}
-use Rattle.mqfs.specs.Left.{SavesLeft}
 use Rattle.mqfs.specs.Says.{Says, run_options}
 
 -- the words are no command
@@ -21,14 +21,14 @@ AreUnknown words = asked_of words ≡ None
 abbrev pub usage_line : List ℕ
 usage_line = codes "usage: mqfs blocks|format|run|recover|ls|cat|gen|dump\n"
 
--- What there is to say to the words, and with which status: the usage line, what there is to say of what they ask, or
--- that memory ran out to read them.
+-- What there is to say to the words, and with which status: the usage line, what there is to say of what
+-- they ask, or that memory ran out to read them.
 pub data IsToSay (words : Words) (old new : FilesState) : (status : ℕ) → (text : List ℕ) → Type 0 where
   no_command : AreUnknown words → new ≡ old → IsToSay words old new 1 usage_line
   of_command : {status : ℕ} {text : List ℕ} (a : Asked) → asked_of words ≡ Some a → Says a old new status text → IsToSay words old new status text
   no_memory : new ≡ old → IsToSay words old new 6 memory_line
 
--- ---- what each status tells
+-- ---- what each status reports
 
 -- the status is one of these
 abbrev pub IsStatus : ℕ → Type 0
@@ -38,8 +38,8 @@ IsStatus s = (s ≡ 0) ⊎ ((s ≡ 1) ⊎ ((s ≡ 2) ⊎ ((s ≡ 3) ⊎ ((s ≡ 
 abbrev pub IsSaid : Words → (files new_files : FilesState) → (old new : SinkState) → (status : ℕ) → Type 0
 IsSaid words files new_files old new status = (text : List ℕ) × IsToSay words files new_files status text × (new.contents ≡ appended old.contents text)
 
--- The file held a block text. What was said is the output of the lines that stand after the cut, and the image that the
--- cut left is saved where a name for it is given.
+-- The file held a block text. What was said is the output of the lines that stand after the cut, and the
+-- image that the cut left is saved where a name for it is given.
 abbrev pub IsDone : (file : List ℕ) → BlocksOptions → (save : Option (List ℕ)) → (files new_files : FilesState) → (old new : SinkState) → Type 0
 IsDone file options save files new_files old new =
     (bytes : List ℕ) × (lines : List (List BlockItem)) × (p : ℕ) × (loaded : FilesState)

@@ -1,37 +1,21 @@
 -- What there is to say of what words ask, and with which status: one definition for each command.
-use Rattle.std.specs.Prelude.{◌≡◌, ℕ, List, Option, Some, option_map}
+use Rattle.std.specs.Prelude.{◌≡◌, ℕ, List, option_map}
 use Rattle.std.specs.Option.{unwrap_or}
 use Rattle.mq_commands.specs.Commands.{Dumps, Formats, Lists, SaysOfImage, ShowsFile}
-use Rattle.mq_commands.specs.Generates.{Generates}
+use Rattle.mq_generated.specs.Generates.{Generates}
 use Rattle.mq_commands.specs.Recovers.{Recovers}
-use Rattle.mq_commands.specs.RunsScripts.{Runs}
+use Rattle.mq_run_command.specs.RunsScripts.{Runs}
 use Rattle.mq_commands.specs.declared.formatting.Numbers.{Numbers}
-use Rattle.mq_commands.specs.declared.generating.Workload.{Workload}
-use Rattle.mq_ending.specs.Ending.{IsLoaded, IsNotLoaded, IsNotSaved, SaysOf, memory_line}
+use Rattle.mq_generated.specs.declared.workload.Workload.{Workload}
+use Rattle.mq_ending.specs.Ending.{SaysOf}
 use Rattle.mq_image_run.specs.declared.options.RunOptions.{RunOptions}
 use Rattle.mq_images.specs.declared.ports.Failing.{Failing}
 use Rattle.mq_outside.specs.Outside.{FilesState}
-use Rattle.mq_text.specs.Refusals.{RefusesText}
-use Rattle.mq_text.specs.declared.item.BlockItem.{BlockItem}
-use Rattle.mq_text.specs.declared.refusal.BlockTextCause.{BlockTextCause}
+use Rattle.mq_text_run.specs.SaysOfBlocks.{SaysOfBlocks}
 use Rattle.mq_words.specs.Asked.{Asked, blocks, cat, dump, format, gen, help, ls, recover, run, version}
 use Rattle.mq_words.specs.Help.{help_text, version_line}
-use Rattle.mq_words.specs.declared.command.BlocksOptions.{BlocksOptions}
 use Rattle.mq_words.specs.declared.command.FailingCommand.{FailingCommand}
 use Rattle.mq_words.specs.declared.command.RunFlags.{RunFlags}
-use Rattle.mqfs.specs.Blocks.{IsBlockText, output_of, refused_line}
-use Rattle.mqfs.specs.Cuts.{IsPrefixAt}
-use Rattle.mqfs.specs.Left.{SavesLeft}
-
--- `blocks`: The file holds a text, and the output is that of the lines that stand after the cut; the image that the cut
--- left is saved before, where a name for it is given. Or the text is refused; or it is not loaded, or the image not
--- saved.
-pub data SaysOfBlocks (file : List ℕ) (options : BlocksOptions) (save : Option (List ℕ)) (old new : FilesState) : (status : ℕ) → (text : List ℕ) → Type 0 where
-  printed : (bytes : List ℕ) (lines : List (List BlockItem)) (p : ℕ) (loaded : FilesState) → IsLoaded file bytes old loaded → IsBlockText bytes lines → IsPrefixAt lines options.cut p → SavesLeft save lines options.cut p loaded new → SaysOfBlocks file options save old new 0 (output_of lines p)
-  refused : (bytes : List ℕ) (line : ℕ) (cause : BlockTextCause) → IsLoaded file bytes old new → RefusesText bytes line cause → SaysOfBlocks file options save old new 2 (refused_line line cause)
-  not_loaded : {status : ℕ} {text : List ℕ} → IsNotLoaded file old new status text → SaysOfBlocks file options save old new status text
-  not_saved : {status : ℕ} {text : List ℕ} (bytes : List ℕ) (lines : List (List BlockItem)) (name : List ℕ) (loaded : FilesState) → save ≡ Some name → IsLoaded file bytes old loaded → IsBlockText bytes lines → IsNotSaved name loaded new status text → SaysOfBlocks file options save old new status text
-  wants_memory : new.contents ≡ old.contents → new.faults ≡ old.faults → SaysOfBlocks file options save old new 6 memory_line
 
 -- this text, and no file is looked at
 pub data SaysOnly (line : List ℕ) (old new : FilesState) : (status : ℕ) → (text : List ℕ) → Type 0 where

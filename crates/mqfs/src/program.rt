@@ -20,7 +20,6 @@ mod help;
 mod ls;
 mod recover;
 mod scripts;
-mod text;
 mod workload;
 
 use self::cat::run_cat;
@@ -30,13 +29,13 @@ use self::help::{say_help, say_version};
 use self::ls::run_ls;
 use self::recover::run_recover;
 use self::scripts::run_scripts;
-use self::text::run_blocks;
 use self::workload::run_workload;
 use mq_calls::Gate;
 use mq_commands::Numbers;
 use mq_ending::{USAGE, say, say_memory};
 use mq_outside::{Files, Sink};
 use mq_promise::every_interleaving_is_recovered;
+use mq_text_run::run_blocks;
 use mq_words::{Command, WordsRefusal, read_command};
 use std::alloc::Global;
 use std::sync::Wait;
@@ -136,12 +135,12 @@ fn read_and_run<F: Files, K: Sink, R: Threads + Wait + Sync, G: Gate + Sync>(
     }
 }
 
-/// The program: runs the command of the words, which are those after its name, over files and an
-/// output. The sessions of `run` and `gen` play their scripts on threads, and pass the gate on their way. The
-/// status is 0 for done, 1 for words that are no command, 2 for a block text or a script that is
-/// refused or for more scripts than queues, 3 for an image, a geometry or a path that is refused, 4
-/// for a fault of a file or the output or a file that is too long, 5 where the command of the drive
-/// was executed that `run` had to let fail, and 6 for out of memory.
+/// The program: runs the command of the words, which are those after its name, over files and an output.
+/// The sessions of `run` and `gen` play their scripts on threads, and pass the gate on their way. The
+/// status is 0 for done, 1 for words that are no command, 2 for a block text or a script that is refused or
+/// for more scripts than queues, 3 for an image, a geometry or a path that is refused, 4 for a fault of a
+/// file or the output or a file that is too long, 5 where the command of the drive was executed that `run`
+/// had to let fail, and 6 for out of memory.
 pub fn mqfs<F: Files, K: Sink, R: Threads + Wait + Sync, G: Gate + Sync>(
     rt: &R,
     alloc: Global,
@@ -151,8 +150,8 @@ pub fn mqfs<F: Files, K: Sink, R: Threads + Wait + Sync, G: Gate + Sync>(
     gate: &G,
 ) -> u8
     ensures status { IsStatus result }
-    // What there is to say of what the words ask, with which status, is `Says`, by a definition for each command.
-    // One such text was to be said, and at most that is.
+    // What there is to say of what the words ask, with which status, is `Says`, by a definition for each
+    // command. One such text was to be said, and at most that is.
     ensures ends { (status : ℕ)
         × (text : List ℕ)
         × IsToSay (map string_bytes words.now) (F.state files.old) (F.state files.new) status text
@@ -167,8 +166,8 @@ pub fn mqfs<F: Files, K: Sink, R: Threads + Wait + Sync, G: Gate + Sync>(
         → asked_of (map string_bytes words.now) ≡ Some a
         → Decides a (F.state files.old).contents status
         → IsUnlessFailed status result }
-    // Where a run is asked whose scripts are read, not more than queues, on an image within the limits on which a volume
-    // stands, the status is 0 or 5, 4 and 6 aside.
+    // Where a run is asked whose scripts are read, not more than queues, on an image within the limits on
+    // which a volume stands, the status is 0 or 5, 4 and 6 aside.
     ensures runs { (a : Asked)
         → asked_of (map string_bytes words.now) ≡ Some a
         → RunsThere a (F.state files.old).contents
@@ -185,7 +184,7 @@ pub fn mqfs<F: Files, K: Sink, R: Threads + Wait + Sync, G: Gate + Sync>(
         → (result ≡ 0) ⊎ (result ≡ 5)
         → IsRan image scripts options result (F.state files.old) (F.state files.new) (K.state out.old) (K.state out.new) }
     // `gen`: at the status 0 the workload was played on an empty file system, the image that a cut of the power left is
-    // saved where a name is given for it, and the output tells how much the tree then has.
+    // saved where a name is given for it, and the output gives how much the tree then has.
     ensures played { (seed threads groups : ℕ) (save : Option (List ℕ))
         → asked_of (map string_bytes words.now) ≡ Some (gen seed threads groups save)
         → result ≡ 0
@@ -198,8 +197,8 @@ pub fn mqfs<F: Files, K: Sink, R: Threads + Wait + Sync, G: Gate + Sync>(
         × ((K.state out.new).contents ≡ appended (K.state out.old).contents usage_line)
         × (F.state files.new ≡ F.state files.old) }
     ensures usage_where { AreUnknown (map string_bytes words.now) → IsUnlessFailed 1 result }
-    // The words are those of `blocks`, and the file holds bytes that are refused; or they are those of `run`, and a
-    // script is refused, or there are more than queues.
+    // The words are those of `blocks`, and the file holds bytes that are refused; or they are those of
+    // `run`, and a script is refused, or there are more than queues.
     ensures refused { result ≡ 2
         → IsRefusedText (map string_bytes words.now) (F.state files.old) (K.state out.old) (K.state out.new)
         ⊎ IsEndedRun 2 (map string_bytes words.now) (F.state files.old) (F.state files.new) (K.state out.old)

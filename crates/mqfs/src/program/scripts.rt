@@ -1,16 +1,16 @@
 // `run`: scripts of requests, run on an image.
 ghost use Rattle.std.specs.Prelude.{◌≡◌, ◌⊎◌, ◌≤◌, ℕ, List, length, map};
-ghost use Rattle.mq_commands.specs.RunsScripts.{Runs};
+ghost use Rattle.mq_run_command.specs.RunsScripts.{Runs};
 ghost use Rattle.mq_ending.specs.Ending.{EndsWith, IsUnlessFailed};
 ghost use Rattle.mq_words.specs.Asked.{AreSmallOfRun};
 ghost use Rattle.mqfs.specs.Decided.{IsRunnable, RunDecides};
 ghost use Rattle.mqfs.specs.Says.{failing, run_options};
 
 use mq_calls::Gate;
-use mq_commands::run;
 use mq_image_run::RunOptions;
 use mq_images::Failing;
 use mq_outside::{Files, Sink};
+use mq_run_command::run;
 use mq_words::{FailingCommand, RunFlags};
 use std::alloc::Global;
 use std::sync::Wait;

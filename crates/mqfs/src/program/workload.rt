@@ -1,11 +1,11 @@
 // `gen`: a generated workload.
 ghost use Rattle.std.specs.Prelude.{◌≡◌, ◌≤◌, ℕ, List, option_map};
-ghost use Rattle.mq_commands.specs.Generates.{Generates};
+ghost use Rattle.mq_generated.specs.Generates.{Generates};
 ghost use Rattle.mq_ending.specs.Ending.{EndsWith, IsUnlessFailed};
 ghost use Rattle.mqfs.specs.Says.{asked_workload};
 
 use mq_calls::Gate;
-use mq_commands::{Workload, generate};
+use mq_generated::{Workload, generate_and_save};
 use mq_outside::{Files, Sink};
 use std::alloc::Global;
 use std::sync::Wait;
@@ -35,5 +35,5 @@ pub fn run_workload<F: Files, K: Sink, R: Threads + Wait + Sync, G: Gate + Sync>
         threads,
         groups,
     };
-    generate(rt, alloc, workload, save, files, out, gate)
+    generate_and_save(rt, alloc, workload, save, files, out, gate)
 }

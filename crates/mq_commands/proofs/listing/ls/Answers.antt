@@ -1,7 +1,8 @@
 use Rattle.mq_commands.specs.Commands.{Lists, SaysOfImage}
 use Rattle.mq_commands.specs.declared.answer.Answer.{Answer}
 use Rattle.mq_commands.proofs.CommandsExact.{listed-where, refused-where, unlisted-where}
-use Rattle.mq_commands.proofs.CommandsSaying.{not-loaded-same, says, says-not}
+use Rattle.mq_commands.proofs.CommandsSaying.{says, says-not}
+use Rattle.mq_ending.proofs.Ending.{not-loaded-same}
 use Rattle.mq_commands.proofs.listing.ls.Goals as goal
 
 pub returns-in-Ok-clause-ends : goal.returns-in-Ok-clause-ends

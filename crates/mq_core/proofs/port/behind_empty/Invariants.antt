@@ -1,6 +1,6 @@
 use Rattle.std.proofs.Common.{◌≡◌, None, replicate}
 use Rattle.mq_core.proofs.port.behind_empty.Given as goal
 
--- so many so far
+-- one absent block for each pass so far
 abbrev pub invariant-loop : goal.invariant-loop
 invariant-loop l = l.blocks.items ≡ replicate l.counter None

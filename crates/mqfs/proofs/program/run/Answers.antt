@@ -1,5 +1,5 @@
 use Rattle.std.proofs.Common.{List, ℕ, Bor, map, refl, sym, subst}
-use Rattle.mq_commands.specs.RunsScripts.{Runs}
+use Rattle.mq_run_command.specs.RunsScripts.{Runs}
 use Rattle.mq_words.specs.Help.{help_text, version_line}
 use Rattle.mqfs.specs.Decided.{IsRunnable, RunDecides}
 use Rattle.mqfs.specs.Says.{run_options, said}

@@ -13,7 +13,7 @@ use Rattle.mq_drive.proofs.Choices.{failed_for, unended_for, all_torn, cut_is}
 use Rattle.mq_drive.proofs.DriveCutting.{IsCut, image_of-cut, quiet-cut}
 use Rattle.mq_drive.proofs.device.Device.cut.Goals as goal
 
--- ---- the block of the failed write is the port's, and in doubt
+-- ---- the block of the failed write is the port's, and uncertain
 
 abbrev IsOwn : Device → ℕ → ℕ → Type 0
 IsOwn p n lba = (p.area.first ≤ lba) × (index_in p.area.first p.area.size p.homes.first lba < n)

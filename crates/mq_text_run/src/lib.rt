@@ -1,0 +1,15 @@
+//! The command `blocks`: a block text is committed through one queue of an emulated drive, cut from power,
+//! recovered and printed.
+#![tactic(auto)]
+
+mod blocks;
+mod command;
+mod commit;
+mod items;
+mod line;
+mod live;
+mod power;
+mod restart;
+
+pub use command::run_blocks;
+pub use commit::{TextRefusal, commit_text};
