@@ -58,7 +58,7 @@ fn list_absent(
     }
 }
 
-/// Lists the pages that a request misses that reads.
+/// Lists the pages that a reading request misses.
 fn list_read(
     alloc: Global,
     working: &Working,
