@@ -7,8 +7,8 @@ import os
 import subprocess
 
 CRATE = "mq_cases"
-# The seconds that one table may take
-LIMIT = 120
+# The seconds of processor time that one table may take, and the seconds after which it is stopped even if it only waits
+LIMIT, PATIENCE = 60, 900
 
 
 class Case:
@@ -60,13 +60,14 @@ def stored(top):
 def run(program, folder, name):
     """The cases that a program makes of the table of this name in a folder, and how the program ended otherwise than it should, or None."""
     printed, ended = os.path.join(folder, f"{name}.out"), None
+    words = ["sh", "-c", f'ulimit -t {LIMIT}; exec "$0" "$1"', program, name]
     with open(printed, "wb") as output:
         try:
-            ran = subprocess.run([program, name], cwd=folder, stdin=subprocess.DEVNULL, stdout=output, timeout=LIMIT)
+            ran = subprocess.run(words, cwd=folder, stdin=subprocess.DEVNULL, stdout=output, timeout=PATIENCE)
             if ran.returncode:
                 ended = f"by signal {-ran.returncode}" if ran.returncode < 0 else f"with status {ran.returncode}"
         except subprocess.TimeoutExpired:
-            ended = f"after {LIMIT} seconds, when it was stopped"
+            ended = f"after {PATIENCE} seconds, when it was stopped"
     return cases_of(read(printed)), ended
 
 
