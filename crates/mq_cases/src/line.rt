@@ -1,0 +1,205 @@
+// The lines of a table, and what each of them asks.
+use crate::spelled::{repeated, unescaped, words_of};
+use std::alloc::{AllocError, AllocFailed, Global};
+
+/// What a line asks.
+#[derive(Drop)]
+pub enum Line {
+    /// Nothing: an empty line, or one that begins with `#`.
+    Nothing,
+    /// A new case, in which no file is there.
+    Case,
+    /// That loads and saves of the case fail, by their numbers from 1.
+    Fail(Vec<u64>),
+    /// That puts of the next call fail, by their numbers from 1.
+    Puts(Vec<u64>),
+    /// A file with these bytes.
+    Make {
+        name: String,
+        bytes: Vec<u8>,
+    },
+    /// These bytes over those of a file, from an offset on.
+    Edit {
+        name: String,
+        offset: usize,
+        bytes: Vec<u8>,
+    },
+    /// A copy of a file, or of its first bytes.
+    Copy {
+        from: String,
+        to: String,
+        count: Option<usize>,
+    },
+    /// A call of the program with these words.
+    Call(Vec<String>),
+    /// The length and the sum of a file.
+    Told(String),
+    /// Bytes of a file, from an offset on.
+    Bytes {
+        name: String,
+        offset: usize,
+        count: usize,
+    },
+}
+
+/// Why a line is not followed.
+#[derive(Debug, Drop, PartialEq)]
+pub enum LineRefusal {
+    /// Its first word is none of a table's.
+    Verb,
+    /// Its other words are fewer or more than its first word has, or one of them is not in its form.
+    Form,
+    /// It names a file that is not there, or bytes past a file's end.
+    Place,
+    /// Its bytes cannot be saved: the case asks that this save fails.
+    Save,
+    /// The memory doesn't suffice.
+    OutOfMemory,
+}
+
+impl From<AllocError> for LineRefusal {
+    fn from(_: AllocError) -> Self {
+        LineRefusal::OutOfMemory
+    }
+}
+
+impl<T: Drop> From<AllocFailed<T>> for LineRefusal {
+    fn from(_: AllocFailed<T>) -> Self {
+        LineRefusal::OutOfMemory
+    }
+}
+
+// The number that a word spells.
+fn number(word: &str) -> Result<usize, LineRefusal> {
+    match word.parse::<usize>() {
+        Ok(number) => Ok(number),
+        Err(_) => Err(LineRefusal::Form),
+    }
+}
+
+// The numbers of a line: at least one.
+fn numbers(alloc: Global, text: &str) -> Result<Vec<u64>, LineRefusal> {
+    let mut numbers = Vec::new(alloc);
+    for word in text.split_whitespace() {
+        match word.parse::<u64>() {
+            Ok(number) => numbers.push(number)?,
+            Err(_) => return Err(LineRefusal::Form),
+        }
+    }
+    if numbers.is_empty() {
+        return Err(LineRefusal::Form);
+    }
+    Ok(numbers)
+}
+
+// The bytes of hexadecimal digits: at least one.
+fn hex_bytes(alloc: Global, digits: &str) -> Result<Vec<u8>, LineRefusal> {
+    match hex::decode(alloc, digits) {
+        Ok(bytes) if !bytes.is_empty() => Ok(bytes),
+        _ => Err(LineRefusal::Form),
+    }
+}
+
+// The one byte of two hexadecimal digits.
+fn hex_byte(alloc: Global, digits: &str) -> Result<u8, LineRefusal> {
+    let bytes = hex_bytes(alloc, digits)?;
+    match bytes.as_slice() {
+        [byte] => Ok(*byte),
+        _ => Err(LineRefusal::Form),
+    }
+}
+
+// A name: at least one byte.
+fn name(alloc: Global, word: &str) -> Result<String, LineRefusal> {
+    if word.is_empty() {
+        return Err(LineRefusal::Form);
+    }
+    Ok(String::from_str(alloc, word)?)
+}
+
+// The text before the first space, and the rest after it.
+fn cut(text: &str) -> (&str, &str) {
+    text.split_once(' ').unwrap_or((text, ""))
+}
+
+fn make(alloc: Global, rest: &str) -> Result<Line, LineRefusal> {
+    let (word, text) = cut(rest);
+    Ok(Line::Make {
+        name: name(alloc, word)?,
+        bytes: unescaped(alloc, text.as_bytes())?,
+    })
+}
+
+fn zeros(alloc: Global, rest: &str) -> Result<Line, LineRefusal> {
+    let (word, count) = cut(rest);
+    Ok(Line::Make {
+        name: name(alloc, word)?,
+        bytes: repeated(alloc, number(count)?, 0)?,
+    })
+}
+
+fn edit(alloc: Global, rest: &str) -> Result<Line, LineRefusal> {
+    let (word, rest) = cut(rest);
+    let (offset, digits) = cut(rest);
+    Ok(Line::Edit {
+        name: name(alloc, word)?,
+        offset: number(offset)?,
+        bytes: hex_bytes(alloc, digits)?,
+    })
+}
+
+fn fill(alloc: Global, rest: &str) -> Result<Line, LineRefusal> {
+    let (word, rest) = cut(rest);
+    let (offset, rest) = cut(rest);
+    let (count, digits) = cut(rest);
+    let byte = hex_byte(alloc, digits)?;
+    Ok(Line::Edit {
+        name: name(alloc, word)?,
+        offset: number(offset)?,
+        bytes: repeated(alloc, number(count)?, byte)?,
+    })
+}
+
+fn copy(alloc: Global, rest: &str) -> Result<Line, LineRefusal> {
+    let (from, rest) = cut(rest);
+    let (to, count) = cut(rest);
+    let count = match count {
+        "" => None,
+        word => Some(number(word)?),
+    };
+    Ok(Line::Copy {
+        from: name(alloc, from)?,
+        to: name(alloc, to)?,
+        count,
+    })
+}
+
+fn bytes(alloc: Global, rest: &str) -> Result<Line, LineRefusal> {
+    let (word, rest) = cut(rest);
+    let (offset, count) = cut(rest);
+    Ok(Line::Bytes {
+        name: name(alloc, word)?,
+        offset: number(offset)?,
+        count: number(count)?,
+    })
+}
+
+/// Reads a line of a table.
+pub fn read_line(alloc: Global, text: &str) -> Result<Line, LineRefusal> {
+    let (verb, rest) = cut(text);
+    match verb {
+        "case" => Ok(Line::Case),
+        "fail" => Ok(Line::Fail(numbers(alloc, rest)?)),
+        "puts" => Ok(Line::Puts(numbers(alloc, rest)?)),
+        "file" => make(alloc, rest),
+        "zeros" => zeros(alloc, rest),
+        "edit" => edit(alloc, rest),
+        "fill" => fill(alloc, rest),
+        "copy" => copy(alloc, rest),
+        ">" => Ok(Line::Call(words_of(alloc, rest)?)),
+        "told" => Ok(Line::Told(name(alloc, rest)?)),
+        "bytes" => bytes(alloc, rest),
+        _ if text.is_empty() || text.starts_with('#') => Ok(Line::Nothing),
+        _ => Err(LineRefusal::Verb),
+    }
+}
