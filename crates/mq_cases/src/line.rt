@@ -31,7 +31,15 @@ pub enum Line {
         count: Option<usize>,
     },
     /// A call of the program with these words.
-    Call(Vec<String>),
+    Call {
+        words: Vec<String>,
+        shown: Shown,
+    },
+    /// Whether two files have the same bytes.
+    Same {
+        one: String,
+        other: String,
+    },
     /// The length and the sum of a file.
     Told(String),
     /// Bytes of a file, from an offset on.
@@ -40,6 +48,15 @@ pub enum Line {
         offset: usize,
         count: usize,
     },
+}
+
+/// What is printed of the output of a call.
+#[derive(Clone, Copy)]
+pub enum Shown {
+    /// All of it.
+    Whole,
+    /// Its last line.
+    LastLine,
 }
 
 /// Why a line is not followed.
@@ -184,6 +201,21 @@ fn bytes(alloc: Global, rest: &str) -> Result<Line, LineRefusal> {
     })
 }
 
+fn same(alloc: Global, rest: &str) -> Result<Line, LineRefusal> {
+    let (one, other) = cut(rest);
+    Ok(Line::Same {
+        one: name(alloc, one)?,
+        other: name(alloc, other)?,
+    })
+}
+
+fn call(alloc: Global, rest: &str, shown: Shown) -> Result<Line, LineRefusal> {
+    Ok(Line::Call {
+        words: words_of(alloc, rest)?,
+        shown,
+    })
+}
+
 /// Reads a line of a table.
 pub fn read_line(alloc: Global, text: &str) -> Result<Line, LineRefusal> {
     let (verb, rest) = cut(text);
@@ -196,7 +228,9 @@ pub fn read_line(alloc: Global, text: &str) -> Result<Line, LineRefusal> {
         "edit" => edit(alloc, rest),
         "fill" => fill(alloc, rest),
         "copy" => copy(alloc, rest),
-        ">" => Ok(Line::Call(words_of(alloc, rest)?)),
+        ">" => call(alloc, rest, Shown::Whole),
+        "last" => call(alloc, rest, Shown::LastLine),
+        "same" => same(alloc, rest),
         "told" => Ok(Line::Told(name(alloc, rest)?)),
         "bytes" => bytes(alloc, rest),
         _ if text.is_empty() || text.starts_with('#') => Ok(Line::Nothing),

@@ -1,5 +1,5 @@
 // Following the lines of a table.
-use crate::line::{Line, LineRefusal, read_line};
+use crate::line::{Line, LineRefusal, Shown, read_line};
 use crate::spelled::sum_of;
 use mq_calls::Open;
 use mq_outside::{Files, MemFiles, MemSink, SaveRefusal};
@@ -115,17 +115,34 @@ impl Table {
         Ok(format!(in self.alloc; "bytes {name} {offset} {digits}\n")?)
     }
 
-    // Calls the program: its output, and the line of its status.
+    // Whether two files have the same bytes.
+    fn same(&self, one: &str, other: &str) -> Result<String, LineRefusal> {
+        let said = if self.held(one)? == self.held(other)? {
+            "same"
+        } else {
+            "different"
+        };
+        Ok(format!(in self.alloc; "{said} {one} {other}\n")?)
+    }
+
+    // Calls the program: what is shown of its output, and the line of its status.
     fn call<R: Threads + Wait + Sync>(
         &mut self,
         rt: &R,
         words: &[String],
+        shown: Shown,
     ) -> Result<String, LineRefusal> {
         let mut out = MemSink::new(self.alloc, Vec::from_slice(self.alloc, &self.puts)?);
         let status = mqfs(rt, self.alloc, words, &mut self.files, &mut out, &Open);
         self.puts.clear();
         let output = String::from_utf8_lossy(self.alloc, out.written())?;
-        Ok(format!(in self.alloc; "{output}status {status}\n")?)
+        match shown {
+            Shown::Whole => Ok(format!(in self.alloc; "{output}status {status}\n")?),
+            Shown::LastLine => {
+                let last = output.lines().last().unwrap_or("");
+                Ok(format!(in self.alloc; "{last}\nstatus {status}\n")?)
+            }
+        }
     }
 
     // Does what a line asks, and gives what is printed of it.
@@ -146,10 +163,11 @@ impl Table {
                 bytes,
             } => self.edit(name.as_str(), offset, &bytes)?,
             Line::Copy { from, to, count } => self.copy(from.as_str(), to.as_str(), count)?,
-            Line::Call(words) => {
-                let said = self.call(rt, &words)?;
+            Line::Call { words, shown } => {
+                let said = self.call(rt, &words, shown)?;
                 return Ok(format!(in self.alloc; "{text}\n{said}")?);
             }
+            Line::Same { one, other } => return self.same(one.as_str(), other.as_str()),
             Line::Told(name) => return Ok(told(
                 self.alloc,
                 name.as_str(),
