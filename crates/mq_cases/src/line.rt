@@ -13,36 +13,47 @@ pub enum Line {
     Fail(Vec<u64>),
     /// That puts of the next call fail, by their numbers from 1.
     Puts(Vec<u64>),
-    /// A file with these bytes.
+    /// That a file changes.
+    Change(Change),
+    /// A call of the program with these words.
+    Call { words: Vec<String>, shown: Shown },
+    /// What is said of files.
+    Question(Question),
+}
+
+/// How a file changes.
+#[derive(Drop)]
+pub enum Change {
+    /// It has these bytes.
     Make {
         name: String,
         bytes: Vec<u8>,
     },
-    /// These bytes over those of a file, from an offset on.
+    /// These bytes stand over its own, from an offset on.
     Edit {
         name: String,
         offset: usize,
         bytes: Vec<u8>,
     },
-    /// A copy of a file, or of its first bytes.
+    /// It is a copy of another one, or of the first bytes of that.
     Copy {
         from: String,
         to: String,
         count: Option<usize>,
     },
-    /// A call of the program with these words.
-    Call {
-        words: Vec<String>,
-        shown: Shown,
-    },
-    /// Whether two files have the same bytes.
+}
+
+/// What is asked of files.
+#[derive(Drop)]
+pub enum Question {
+    /// Whether two of them have the same bytes.
     Same {
         one: String,
         other: String,
     },
-    /// The length and the sum of a file.
+    /// The length and the sum of one.
     Told(String),
-    /// Bytes of a file, from an offset on.
+    /// Bytes of one, from an offset on.
     Bytes {
         name: String,
         offset: usize,
@@ -66,9 +77,11 @@ pub enum LineRefusal {
     Verb,
     /// Its other words are fewer or more than its first word has, or one of them is not in its form.
     Form,
+    /// It does not stand right after its case.
+    Late,
     /// It names a file that is not there, or bytes past a file's end.
     Place,
-    /// Its bytes cannot be saved: the case asks that this save fails.
+    /// The case asks that this change of a file fails.
     Save,
     /// The memory doesn't suffice.
     OutOfMemory,
@@ -126,9 +139,9 @@ fn hex_byte(alloc: Global, digits: &str) -> Result<u8, LineRefusal> {
     }
 }
 
-// A name: at least one byte.
+// A name: at least one byte, and no space.
 fn name(alloc: Global, word: &str) -> Result<String, LineRefusal> {
-    if word.is_empty() {
+    if word.is_empty() || word.contains(' ') {
         return Err(LineRefusal::Form);
     }
     Ok(String::from_str(alloc, word)?)
@@ -141,28 +154,28 @@ fn cut(text: &str) -> (&str, &str) {
 
 fn make(alloc: Global, rest: &str) -> Result<Line, LineRefusal> {
     let (word, text) = cut(rest);
-    Ok(Line::Make {
+    Ok(Line::Change(Change::Make {
         name: name(alloc, word)?,
         bytes: unescaped(alloc, text.as_bytes())?,
-    })
+    }))
 }
 
 fn zeros(alloc: Global, rest: &str) -> Result<Line, LineRefusal> {
     let (word, count) = cut(rest);
-    Ok(Line::Make {
+    Ok(Line::Change(Change::Make {
         name: name(alloc, word)?,
         bytes: repeated(alloc, number(count)?, 0)?,
-    })
+    }))
 }
 
 fn edit(alloc: Global, rest: &str) -> Result<Line, LineRefusal> {
     let (word, rest) = cut(rest);
     let (offset, digits) = cut(rest);
-    Ok(Line::Edit {
+    Ok(Line::Change(Change::Edit {
         name: name(alloc, word)?,
         offset: number(offset)?,
         bytes: hex_bytes(alloc, digits)?,
-    })
+    }))
 }
 
 fn fill(alloc: Global, rest: &str) -> Result<Line, LineRefusal> {
@@ -170,11 +183,11 @@ fn fill(alloc: Global, rest: &str) -> Result<Line, LineRefusal> {
     let (offset, rest) = cut(rest);
     let (count, digits) = cut(rest);
     let byte = hex_byte(alloc, digits)?;
-    Ok(Line::Edit {
+    Ok(Line::Change(Change::Edit {
         name: name(alloc, word)?,
         offset: number(offset)?,
         bytes: repeated(alloc, number(count)?, byte)?,
-    })
+    }))
 }
 
 fn copy(alloc: Global, rest: &str) -> Result<Line, LineRefusal> {
@@ -184,29 +197,11 @@ fn copy(alloc: Global, rest: &str) -> Result<Line, LineRefusal> {
         "" => None,
         word => Some(number(word)?),
     };
-    Ok(Line::Copy {
+    Ok(Line::Change(Change::Copy {
         from: name(alloc, from)?,
         to: name(alloc, to)?,
         count,
-    })
-}
-
-fn bytes(alloc: Global, rest: &str) -> Result<Line, LineRefusal> {
-    let (word, rest) = cut(rest);
-    let (offset, count) = cut(rest);
-    Ok(Line::Bytes {
-        name: name(alloc, word)?,
-        offset: number(offset)?,
-        count: number(count)?,
-    })
-}
-
-fn same(alloc: Global, rest: &str) -> Result<Line, LineRefusal> {
-    let (one, other) = cut(rest);
-    Ok(Line::Same {
-        one: name(alloc, one)?,
-        other: name(alloc, other)?,
-    })
+    }))
 }
 
 fn call(alloc: Global, rest: &str, shown: Shown) -> Result<Line, LineRefusal> {
@@ -214,6 +209,28 @@ fn call(alloc: Global, rest: &str, shown: Shown) -> Result<Line, LineRefusal> {
         words: words_of(alloc, rest)?,
         shown,
     })
+}
+
+fn same(alloc: Global, rest: &str) -> Result<Line, LineRefusal> {
+    let (one, other) = cut(rest);
+    Ok(Line::Question(Question::Same {
+        one: name(alloc, one)?,
+        other: name(alloc, other)?,
+    }))
+}
+
+fn told(alloc: Global, rest: &str) -> Result<Line, LineRefusal> {
+    Ok(Line::Question(Question::Told(name(alloc, rest)?)))
+}
+
+fn bytes(alloc: Global, rest: &str) -> Result<Line, LineRefusal> {
+    let (word, rest) = cut(rest);
+    let (offset, count) = cut(rest);
+    Ok(Line::Question(Question::Bytes {
+        name: name(alloc, word)?,
+        offset: number(offset)?,
+        count: number(count)?,
+    }))
 }
 
 /// Reads a line of a table.
@@ -231,7 +248,7 @@ pub fn read_line(alloc: Global, text: &str) -> Result<Line, LineRefusal> {
         ">" => call(alloc, rest, Shown::Whole),
         "last" => call(alloc, rest, Shown::LastLine),
         "same" => same(alloc, rest),
-        "told" => Ok(Line::Told(name(alloc, rest)?)),
+        "told" => told(alloc, rest),
         "bytes" => bytes(alloc, rest),
         _ if text.is_empty() || text.starts_with('#') => Ok(Line::Nothing),
         _ => Err(LineRefusal::Verb),

@@ -1,5 +1,5 @@
 // Following the lines of a table.
-use crate::line::{Line, LineRefusal, Shown, read_line};
+use crate::line::{Change, Line, LineRefusal, Question, Shown, read_line};
 use crate::spelled::sum_of;
 use mq_calls::Open;
 use mq_outside::{Files, MemFiles, MemSink, SaveRefusal};
@@ -8,39 +8,32 @@ use std::alloc::{AllocError, Global};
 use std::sync::Wait;
 use std::thread::Threads;
 
-/// The files of a case, and which puts of its next call fail.
+/// The files of a case, and what is to fail in it.
 #[derive(Drop)]
 pub struct Table {
     alloc: Global,
     files: MemFiles,
+    /// The puts of the next call that fail.
     puts: Vec<u64>,
+    /// The number of the line that was followed last, from 1.
     line: u64,
+    /// Whether that line began a case.
+    is_fresh: bool,
 }
 
-// The text of a refusal.
+// What is printed of a refusal.
 fn cause_of(refusal: &LineRefusal) -> &'static str {
     match refusal {
         LineRefusal::Verb => "no such verb",
         LineRefusal::Form => "not in the form of its verb",
+        LineRefusal::Late => "not right after its case",
         LineRefusal::Place => "no such file or bytes",
         LineRefusal::Save => "not saved",
         LineRefusal::OutOfMemory => "no memory",
     }
 }
 
-// The line of a file: its length and sum, or that there is none.
-fn told(alloc: Global, name: &str, held: Option<&[u8]>) -> Result<String, AllocError> {
-    match held {
-        Some(bytes) => {
-            let count = bytes.len();
-            let sum = sum_of(bytes);
-            format!(in alloc; "{name} {count} {sum:016x}\n")
-        }
-        None => format!(in alloc; "{name} absent\n"),
-    }
-}
-
-// The bytes with others in place of those from an offset on, or nothing where they go past the end.
+// The bytes with others in place of those from an offset on.
 fn edited(alloc: Global, held: &[u8], offset: usize, bytes: &[u8]) -> Result<Vec<u8>, LineRefusal> {
     let mut copy = Vec::from_slice(alloc, held)?;
     for (k, byte) in bytes.iter().enumerate() {
@@ -60,12 +53,14 @@ impl Table {
             files: MemFiles::new(alloc, Vec::new(alloc), Vec::new(alloc)),
             puts: Vec::new(alloc),
             line: 0,
+            is_fresh: false,
         }
     }
 
-    // Forgets all files. The loads and saves with these numbers are to fail from now on.
+    // Forgets all files. The loads and saves with these numbers fail from now on.
     fn begin(&mut self, fail: Vec<u64>) {
         self.files = MemFiles::new(self.alloc, Vec::new(self.alloc), fail);
+        self.puts.clear();
     }
 
     fn held(&self, name: &str) -> Result<&[u8], LineRefusal> {
@@ -102,6 +97,40 @@ impl Table {
         self.save(to, &copy)
     }
 
+    fn change(&mut self, change: &Change) -> Result<(), LineRefusal> {
+        match change {
+            Change::Make { name, bytes } => self.save(name.as_str(), bytes),
+            Change::Edit {
+                name,
+                offset,
+                bytes,
+            } => self.edit(name.as_str(), *offset, bytes),
+            Change::Copy { from, to, count } => self.copy(from.as_str(), to.as_str(), *count),
+        }
+    }
+
+    // Whether two files have the same bytes.
+    fn same(&self, one: &str, other: &str) -> Result<String, LineRefusal> {
+        let said = if self.held(one)? == self.held(other)? {
+            "same"
+        } else {
+            "different"
+        };
+        Ok(format!(in self.alloc; "{said} {one} {other}\n")?)
+    }
+
+    // The length and the sum of a file, or that there is none.
+    fn told(&self, name: &str) -> Result<String, LineRefusal> {
+        match self.files.get(name) {
+            Some(bytes) => {
+                let count = bytes.len();
+                let sum = sum_of(bytes);
+                Ok(format!(in self.alloc; "{name} {count} {sum:016x}\n")?)
+            }
+            None => Ok(format!(in self.alloc; "{name} absent\n")?),
+        }
+    }
+
     // The bytes of a file in hexadecimal.
     fn bytes(&self, name: &str, offset: usize, count: usize) -> Result<String, LineRefusal> {
         let held = self.held(name)?;
@@ -115,20 +144,23 @@ impl Table {
         Ok(format!(in self.alloc; "bytes {name} {offset} {digits}\n")?)
     }
 
-    // Whether two files have the same bytes.
-    fn same(&self, one: &str, other: &str) -> Result<String, LineRefusal> {
-        let said = if self.held(one)? == self.held(other)? {
-            "same"
-        } else {
-            "different"
-        };
-        Ok(format!(in self.alloc; "{said} {one} {other}\n")?)
+    fn answer(&self, question: &Question) -> Result<String, LineRefusal> {
+        match question {
+            Question::Same { one, other } => self.same(one.as_str(), other.as_str()),
+            Question::Told(name) => self.told(name.as_str()),
+            Question::Bytes {
+                name,
+                offset,
+                count,
+            } => self.bytes(name.as_str(), *offset, *count),
+        }
     }
 
-    // Calls the program: what is shown of its output, and the line of its status.
+    // Calls the program: the line, what is shown of the output, and the status.
     fn call<R: Threads + Wait + Sync>(
         &mut self,
         rt: &R,
+        text: &str,
         words: &[String],
         shown: Shown,
     ) -> Result<String, LineRefusal> {
@@ -137,47 +169,31 @@ impl Table {
         self.puts.clear();
         let output = String::from_utf8_lossy(self.alloc, out.written())?;
         match shown {
-            Shown::Whole => Ok(format!(in self.alloc; "{output}status {status}\n")?),
+            Shown::Whole => Ok(format!(in self.alloc; "{text}\n{output}status {status}\n")?),
             Shown::LastLine => {
                 let last = output.lines().last().unwrap_or("");
-                Ok(format!(in self.alloc; "{last}\nstatus {status}\n")?)
+                Ok(format!(in self.alloc; "{text}\n{last}\nstatus {status}\n")?)
             }
         }
     }
 
     // Does what a line asks, and gives what is printed of it.
     fn act<R: Threads + Wait + Sync>(&mut self, rt: &R, text: &str) -> Result<String, LineRefusal> {
+        let was_fresh = self.is_fresh;
+        self.is_fresh = false;
         match read_line(self.alloc, text)? {
-            Line::Nothing => {}
+            Line::Nothing => self.is_fresh = was_fresh,
             Line::Case => {
                 self.begin(Vec::new(self.alloc));
-                self.puts.clear();
+                self.is_fresh = true;
                 return Ok(format!(in self.alloc; "\n{text}\n")?);
             }
+            Line::Fail(_) if !was_fresh => return Err(LineRefusal::Late),
             Line::Fail(calls) => self.begin(calls),
             Line::Puts(puts) => self.puts = puts,
-            Line::Make { name, bytes } => self.save(name.as_str(), &bytes)?,
-            Line::Edit {
-                name,
-                offset,
-                bytes,
-            } => self.edit(name.as_str(), offset, &bytes)?,
-            Line::Copy { from, to, count } => self.copy(from.as_str(), to.as_str(), count)?,
-            Line::Call { words, shown } => {
-                let said = self.call(rt, &words, shown)?;
-                return Ok(format!(in self.alloc; "{text}\n{said}")?);
-            }
-            Line::Same { one, other } => return self.same(one.as_str(), other.as_str()),
-            Line::Told(name) => return Ok(told(
-                self.alloc,
-                name.as_str(),
-                self.files.get(name.as_str()),
-            )?),
-            Line::Bytes {
-                name,
-                offset,
-                count,
-            } => return self.bytes(name.as_str(), offset, count),
+            Line::Change(change) => self.change(&change)?,
+            Line::Call { words, shown } => return self.call(rt, text, &words, shown),
+            Line::Question(question) => return self.answer(&question),
         }
         Ok(String::new(self.alloc))
     }
