@@ -14,13 +14,12 @@ const NO_COMMAND: [&str; 68] = [
     "t blocks",
     "help",
     "-h",
-    // a run has one script or more, and names a command by two numbers, of which the second is not 0
+    // a run has one script or more, and names a command by two numbers
     "run",
     "run d",
     "run d --cut 1",
     "run d t --again 1",
     "run d t --fail 1",
-    "run d t --fail 0:0",
     "run d t --fail 0:01",
     "run d t --fail 0:1:1",
     "run d t --fail 9223372036854775808:1",
