@@ -4,6 +4,8 @@
 - Each row of the tables of docs/PROVED.md names crates, functions and clauses that stand in the sources.
 - Each quoted block (a line `<!-- quoted from FILE -->` before its fence) is a part of that file.
 - Each relative link of a document leads to a file, and to a heading where it names one.
+- Each wrong change that docs/THEOREM.md names is an edit in `must-fail/` of a crate that its row names.
+- The calls that README.md shows, with their outputs, stand one after another in what the tables of cases come to.
 - README.md, docs/DECISIONS.md and all prose together keep their sizes.
 
 Prints a line for each fault. The status is 1 where there is one.
@@ -15,6 +17,8 @@ import sys
 TOP = os.path.dirname(os.path.dirname(os.path.realpath(__file__)))
 PROVED = "docs/PROVED.md"
 NAMELESS = "–"
+DEMO, CASES = "README.md", "crates/mq_cases/stdout"
+THEOREM = "docs/THEOREM.md"
 # The most bytes of a document, and of all prose for a thousand lines of the product's code.
 MOST = {"README.md": 9216, "docs/DECISIONS.md": 20480}
 MOST_PROSE = 12 * 1024
@@ -155,6 +159,24 @@ def faults_of_links(path):
             yield f"{path}: {to} has no heading for {link}"
 
 
+def faults_of_changes():
+    """The wrong changes of docs/THEOREM.md that stand in `must-fail/` of none of the crates beside them."""
+    rows = re.findall(r"^\|[^|]*\|[^|]*\|([^|]*)\|([^|]*)\|$", read(THEOREM).partition("| program |")[2], re.M)
+    for crates, changes in ((re.findall(r"`(mq\w+)`:", it), re.findall(r"`(\w+)`", change)) for it, change in rows):
+        for change in changes:
+            paths = [f"crates/{crate}/must-fail/{change}.edit" for crate in crates]
+            if not any(os.path.isfile(os.path.join(TOP, path)) for path in paths):
+                yield f"{THEOREM}: no edit {change} in {', '.join(crates)}"
+
+
+def faults_of_demo():
+    """The demo of README.md, unless its calls and outputs stand in the stored output of the tables of cases."""
+    shown = re.search(r"(?:^    .*\n)+", read(DEMO), re.M).group().replace("\n    ", "\n")
+    calls = re.split(r"^ *\$ \./mqfs ", shown, flags=re.M)[1:]
+    if not calls or "".join(f"> {it}status 0\n" for it in calls) not in read(CASES):
+        yield f"{DEMO}: its calls and outputs don't stand in {CASES}"
+
+
 def is_product(crate):
     """Whether a crate is one of the product, and not one for tests or an example."""
     return not re.match(r"mq_(test_|cases|watch|example_)", crate)
@@ -198,7 +220,7 @@ def faults_of_sizes():
 
 def main():
     """Prints all faults."""
-    faults = [*faults_of_proved(), *faults_of_sizes()]
+    faults = [*faults_of_proved(), *faults_of_changes(), *faults_of_demo(), *faults_of_sizes()]
     for path in documents():
         faults += [*faults_of_quotes(path), *faults_of_links(path)]
     for fault in faults:
