@@ -121,7 +121,7 @@ def faults_of_proved():
         if not line.startswith("|") or len(cells) != 4 or cells[1] == "crate" or set(cells[1]) <= set("-: "):
             continue
         rows += 1
-        crates = re.findall(r"\[(\w+)\]", cells[1])
+        crates = sum(parts(cells[1]), [])
         for fault in faults_of_row(crates, parts(cells[2]), parts(cells[3]), known):
             yield f"{PROVED}:{number}: {fault}"
     if rows == 0:
