@@ -1,8 +1,8 @@
-"""What the first build takes: side by side, by the script `mqfs`, and crate after crate, as a table.
+"""What the first build takes: side by side, by the script `prove`, and crate after crate, as a table.
 
     python3 bench/first_build.py [COMMIT] [--beside] [--after]
 
-Each is made in a clone of its own of COMMIT (HEAD) of the repository that this script is in. Side by side, `./mqfs --version` proves and
+Each is made in a clone of its own of COMMIT (HEAD) of the repository that this script is in. Side by side, `./prove` proves and
 builds; crate after crate, `rt lib` is called in each crate of the program, the lowest first, and `rt run` in that of the program, each
 with as many jobs as `rt` chooses. With --beside or --after only one of them is made.
 
@@ -49,8 +49,8 @@ def call(words, folder):
 
 
 def beside(top):
-    """Proves and builds by the script `mqfs`."""
-    return call(["./mqfs", "--version"], top)
+    """Proves and builds by the script `prove`."""
+    return call(["./prove"], top)
 
 
 def after(top):

@@ -116,10 +116,7 @@ const STOPPED: Course<'static> = Course {
         "base 0\nat 0 session 1 group 0 fatomic\n  refused NotFound\ncommit 1 session 0 group 0 fsync\n  ok\n  ok\n  ok\ncommit 2 session 1 group 1 fsync\n  ok\nanswer 0 0 failed 1 640 1\nanswer 1 0 ok 0\nanswer 1 1 stopped 1 2\nstopped tx 1\n",
         "base 0\ncommit 1 session 0 group 0 fsync\n  ok\n  ok\n  ok\nat 1 session 1 group 0 fatomic\n  refused NotFound\ncommit 2 session 1 group 1 fsync\n  ok\nanswer 0 0 failed 1 640 1\nanswer 1 0 ok 1\nanswer 1 1 stopped 1 2\nstopped tx 1\n",
     ],
-    after: [
-        ("recover d", 0, "prefix 0\nbase 2\n"),
-        ("ls d", 0, "d /\n"),
-    ],
+    after: [("recover d", 0, "prefix 0\nbase 2\n"), ("ls d", 0, "d /\n")],
 };
 
 // Sessions that the program runs one after another use up the turns.
@@ -155,8 +152,8 @@ const FOUND: [(&str, u64, [&str; 2]); 6] = [
     ("prefix 2\nbase 2\n", 2, ["d /\nd /a\nd /b\n"; 2]),
 ];
 
-// Whether each number that is answered `ok` is within the prefix that a recovery finds, and the tree is that
-// after these commits.
+// Whether each number that is answered `ok` is within the prefix that a recovery finds, and the tree is
+// that after these commits.
 fn is_kept<R: Threads + Wait + Sync>(
     rt: &R,
     alloc: Global,
@@ -168,9 +165,11 @@ fn is_kept<R: Threads + Wait + Sync>(
     let listed = call(rt, alloc, "ls d", files, &Open)?;
     for (output, prefix, trees) in FOUND {
         if left.is(0, output) {
-            return Ok((prefix >= 1 || !report.contains(" ok 1\n"))
-                && (prefix >= 2 || !report.contains(" ok 2\n"))
-                && listed.is(0, trees[order % 2]));
+            return Ok(
+                (prefix >= 1 || !report.contains(" ok 1\n"))
+                    && (prefix >= 2 || !report.contains(" ok 2\n"))
+                    && listed.is(0, trees[order % 2]),
+            );
         }
     }
     Ok(false)
