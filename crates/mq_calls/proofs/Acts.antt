@@ -83,7 +83,7 @@ module _ {P : Type 0} {G : Ghosts P} where
 
   -- a group that was drawn and sent
   pub committed-of : (g : Geometry) (c : Call) (done : Done) (e : FileEntry) (at : ℕ) (old taken v new : Seat P FileEntry G) → OnlyHolds old taken → ReadsWords taken v → v.reading.answers ≡ Base e.reads.base ∷ Front e.reads.front ∷ taken.reading.answers → IsEntryFor c done e → length done.writes.items ≤ write_limit g → HasDrawn e c.session at (Sent at) v new → IsCommitted g c done.replies.items at old new
-  committed-of g c done e at old taken v new holds words answers is few drew = (commits-of g c done e at (Sent at) old taken v new holds words answers is few drew, drew.seen)
+  committed-of g c done e at old taken v new holds words answers is few drew = (commits-of g c done e at (Sent at) old taken v new holds words answers is few drew, drew.seen, drew.under)
 
   -- ---- a group that was not drawn
 
@@ -148,4 +148,5 @@ module _ {P : Type 0} {G : Ghosts P} (state : P → PortState) (faults : P → L
     replies = done.replies.items;
     commits = commits-of g c done e at Off old taken v new holds words answers is few drew;
     cut = record { above = (let a = was.above in let b = words.seen in let d = holds.seen in omega arith); side = was.side; numbered = was.numbered; number = was.number; cut = was.cut };
+    under = drew.under;
   })

@@ -236,6 +236,7 @@ module _ {P : Type 0} {G : Ghosts P} (state : P → PortState) (faults : P → L
     replies = k.replies;
     commits = commits-same g c k.replies at report.Off v m w same k.commits;
     cut = record { above = (let a = k.cut.above in let b = same.seen in omega arith); side = k.cut.side; numbered = k.cut.numbered; number = k.cut.number; cut = k.cut.cut };
+    under = k.under;
   })
 
   pub missed-same : (g : Geometry) (c : Call) (v m w : Seat P FileEntry G) (x : Miss) → IsSameSession v m → IsMissed state faults g c m w x → IsMissed state faults g c v w x

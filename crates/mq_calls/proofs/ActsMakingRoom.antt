@@ -17,7 +17,7 @@ use Rattle.mq_tree.specs.declared.request.Reply.{Reply}
 use Rattle.mq_turns.specs.Lists.{Each}
 use Rattle.mq_turns.specs.declared.rule.MarkAnswer.{MarkAnswer}
 use Rattle.mq_turns.specs.declared.rule.Charge.{Charge}
-use Rattle.mq_calls.specs.Acts.{Acts, Begins, Call, GoesOn, HasActed, IsAreaFull, IsRefused, IsTurnedDown, again, at_once, memory, turned_down}
+use Rattle.mq_calls.specs.Acts.{Acts, Begins, Call, GoesOn, HasActed, HasNotWaited, IsAreaFull, IsRefused, IsTurnedDown, WaitsForNone, again, at_once, memory, turned_down}
 use Rattle.mq_calls.specs.Calling.{HasLeft}
 use Rattle.mq_calls.specs.Committing.{IsMissed}
 use Rattle.mq_calls.specs.Sessions.{HasCalled, IsReady}
@@ -113,6 +113,9 @@ module _ {P : Type 0} {G : Ghosts P} (state : P → PortState) (faults : P → L
   pub acted-at-once : (g : Geometry) (c : Call) (at : ℕ) (drew : Bool) (replies : List Reply) (v w : Seat P FileEntry G) → Acts g c at drew replies v w → HasActed state faults g c at drew replies v w
   acted-at-once g c at drew replies v w acts = record { from = v; begins = at_once; acts = acts }
 
+  pub waits-at-once : (g : Geometry) (c : Call) (at : ℕ) (drew : Bool) (v w : Seat P FileEntry G) → WaitsForNone c.session at drew v w → HasNotWaited state faults g c at drew v w
+  waits-at-once g c at drew v w waits = record { from = v; begins = at_once; waits = waits }
+
   pub refused-at-once : (g : Geometry) (c : Call) (why : CallCause) (drawn : Option ℕ) (v w : Seat P FileEntry G) → IsTurnedDown state faults g c v w why drawn → IsRefused state faults g c v w why drawn
   refused-at-once g c why drawn v w turned = turned_down at_once turned
 
@@ -123,6 +126,9 @@ module _ {P : Type 0} {G : Ghosts P} (state : P → PortState) (faults : P → L
 
   pub acted-again : (g : Geometry) (c : Call) (at : ℕ) (drew : Bool) (replies : List Reply) (base : ℕ) (first v m w : Seat P FileEntry G) → IsAreaFull state faults g c first v → Raises state faults file_group base v m → Acts g c at drew replies m w → HasActed state faults g c at drew replies first w
   acted-again g c at drew replies base first v m w full raises acts = record { from = m; begins = begins-again g c base first v m full raises; acts = acts }
+
+  pub waits-again : (g : Geometry) (c : Call) (at : ℕ) (drew : Bool) (base : ℕ) (first v m w : Seat P FileEntry G) → IsAreaFull state faults g c first v → Raises state faults file_group base v m → WaitsForNone c.session at drew m w → HasNotWaited state faults g c at drew first w
+  waits-again g c at drew base first v m w full raises waits = record { from = m; begins = begins-again g c base first v m full raises; waits = waits }
 
   pub refused-again : (g : Geometry) (c : Call) (why : CallCause) (drawn : Option ℕ) (base : ℕ) (first v m w : Seat P FileEntry G) → IsAreaFull state faults g c first v → Raises state faults file_group base v m → IsTurnedDown state faults g c m w why drawn → IsRefused state faults g c first w why drawn
   refused-again g c why drawn base first v m w full raises turned = turned_down (begins-again g c base first v m full raises) turned

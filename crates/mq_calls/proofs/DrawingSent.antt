@@ -28,7 +28,7 @@ use Rattle.mq_turns.specs.declared.rule.Report.{Report}
 use Rattle.mq_turns.specs.declared.turn.Turn.TheVariants.{Page, Side}
 use Rattle.mq_turns.proofs.Lists.{each_map, times_without, times_without_other, miss}
 use Rattle.mq_turns.proofs.DeskSeen.{times_renewed, turn_seen}
-use Rattle.mq_calls.specs.Acts.{WasCutAt}
+use Rattle.mq_calls.specs.Acts.{IsUnderWay, WasCutAt}
 use Rattle.mq_calls.specs.Committing.{HoldsCommit, OnlyReports}
 use Rattle.mq_calls.specs.Drawing.{HasDrawn}
 use Rattle.mq_calls.specs.Pages.{HoldsOnlyPages, HoldsPages, blocks_of, giving_pages}
@@ -36,6 +36,7 @@ use Rattle.mq_calls.specs.Runs.{file_values, files}
 use Rattle.mq_calls.proofs.LeavingAfterDraw.{nothing-left}
 use Rattle.mq_calls.proofs.WantedFurther.{cells-below}
 use Rattle.mq_calls.proofs.PagesHolding.{pages-kept-all, pages-renewed}
+use Rattle.mq_calls.proofs.ActsUnderWay.{under-after}
 use Rattle.mq_calls.proofs.CommittingInHand.{side-apart}
 use Rattle.mq_calls.proofs.PagesLists.{none-held}
 
@@ -66,8 +67,8 @@ module _ {P : Type 0} {G : Ghosts P} (state : P → PortState) (faults : P → L
       let none = nothing-left cells slot (refreshed about K l) each in
       none-held _ (λ k. given-renewed k slot more L (without_each (blocks_of cells) (refreshed about K l)) ∙ ap (times k) none)
 
-  pub has-drawn : (o : Start P FileEntry G) (q at : ℕ) (e : FileEntry) (r : Report) (cells : Cells) (before s : QueueSide P FileEntry G) (n : NumberedCommit) (v w x y : Seat P FileEntry G) → HoldsCommit state faults o q cells before v → Draws state faults file_group o q e v w s n → n.number ≡ at → x ≡ giving_pages (blocks_of cells) w → IsReported state faults file_group o q r x y → HasDrawn e q at r v y
-  has-drawn o q at e r cells before s n v w x y holds d number gave told =
+  pub has-drawn : (o : Start P FileEntry G) (q at : ℕ) (e : FileEntry) (r : Report) (cells : Cells) (before s : QueueSide P FileEntry G) (n : NumberedCommit) (v w x y : Seat P FileEntry G) → HoldsCommit state faults o q cells before v → Draws state faults file_group o q e v w s n → n.number ≡ at → x ≡ giving_pages (blocks_of cells) w → IsReported state faults file_group o q r x y → IsUnderWay q at x → HasDrawn e q at r v y
+  has-drawn o q at e r cells before s n v w x y holds d number gave told under =
       let is : y ≡ giving (slot_of o (Side q)) (after_notice (Numbers.machine state faults file_group) (notice.Charge (reported q r)) told.known (giving_pages (blocks_of cells) w)) =
       told.is ∙ ap (λ (z : Seat P FileEntry G). giving (slot_of o (Side q)) (after_notice (Numbers.machine state faults file_group) (notice.Charge (reported q r)) told.known z)) gave in
       record {
@@ -85,6 +86,7 @@ module _ {P : Type 0} {G : Ghosts P} (state : P → PortState) (faults : P → L
         above = (let l = d.sees.seen in let m = d.number in omega arith);
         seen = ap (λ (z : Seat P FileEntry G). z.seen) is ∙ d.seen ∙ number;
         done = (let l : y.reading.done ≡ w.reading.done = ap (λ (z : Seat P FileEntry G). z.reading.done) is in let m = d.rest.reading.done in omega arith);
+        under = under-after q at x y (ap (λ (z : Seat P FileEntry G). z.reading.done) told.is) (ap (λ (z : Seat P FileEntry G). z.reading.swept) told.is) (ap (λ (z : Seat P FileEntry G). z.reading.low) told.is) under;
         answers = ap (λ (z : Seat P FileEntry G). z.reading.answers) is ∙ d.rest.reading.answers;
         charged = ap (λ (z : Seat P FileEntry G). z.reading.charged) is ∙ ap (λ l. reported q r ∷ l) d.rest.reading.charged;
       }

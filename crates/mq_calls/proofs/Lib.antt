@@ -12,6 +12,8 @@ pub mod AskingFirstChange
 pub mod CommittingInHand
 pub mod CommittingDrawable
 pub mod Acts
+pub mod ActsUnderWay
+pub mod PreparingRoom
 pub mod LeavingAfterDraw
 pub mod ActsCauses
 pub mod DrawingSent

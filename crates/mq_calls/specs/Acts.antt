@@ -65,6 +65,20 @@ pub record IsOfCall (c : Call) (replies : List Reply) (e : FileEntry) : Type 0 w
   pub replies_are : e.replies ≡ replies
 
 module _ {P : Type 0} {G : Ghosts P} where
+  -- ---- what a session does not know of its own group
+
+  -- The session of this queue does not know this number of its own to be done: all numbers up to one below it
+  -- may be known to be done, and its sweep over the queues, where it has passed its own, has not come to it.
+  pub record IsUnderWay (q at : ℕ) (v : Seat P FileEntry G) : Type 0 where
+    pub undone : v.reading.done < at
+    pub unswept : q < v.reading.swept → v.reading.low < at
+
+  -- Nothing was waited for after the group. If it drew the number, this is under way; and if not, what the
+  -- session knows of words and reports is what it was when the group was run.
+  abbrev pub WaitsForNone : (q at : ℕ) → (drew : Bool) → Seat P FileEntry G → Seat P FileEntry G → Type 0
+  WaitsForNone q at true old new = IsUnderWay q at new
+  WaitsForNone q at false old new = new.reading ≡ old.reading
+
   -- ---- a group that was done
 
   -- The session drew its group's entry at this number, which is above all that it had seen. The group
@@ -156,11 +170,13 @@ module _ {P : Type 0} {G : Ghosts P} (state : P → PortState) (faults : P → L
     pub number : numbered.number ≡ at
     pub cut : WasCut state faults file_group side numbered
 
-  -- Its send was cut: the group is drawn, and its transaction may or may not survive.
+  -- Its send was cut: the group is drawn, and its transaction may or may not survive. No queue was drained
+  -- after that.
   pub record IsCut (g : Geometry) (c : Call) (at : ℕ) (old new : Seat P FileEntry G) : Type 0 where
     pub replies : List Reply
     pub commits : Commits g c replies at report.Off old new
     pub cut : WasCutAt old at
+    pub under : IsUnderWay c.session at new
 
   -- Why a group that was run on its pages is refused, with the number that it had drawn, and what that
   -- leaves.
@@ -224,6 +240,12 @@ module _ {P : Type 0} {G : Ghosts P} (state : P → PortState) (faults : P → L
     pub from : Seat P FileEntry G
     pub begins : Begins g c old from
     pub acts : Acts g c at drew replies from new
+
+  -- The group was run at once or after a checkpoint, and nothing was waited for after it.
+  pub record HasNotWaited (g : Geometry) (c : Call) (at : ℕ) (drew : Bool) (old new : Seat P FileEntry G) : Type 0 where
+    pub from : Seat P FileEntry G
+    pub begins : Begins g c old from
+    pub waits : WaitsForNone c.session at drew from new
 
   -- Why `fatomic` refuses a group, with the number that the group had drawn, and what that leaves: the
   -- group was turned down; or its plan did not fit the journal area, and the checkpoint was refused.

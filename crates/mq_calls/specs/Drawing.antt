@@ -7,7 +7,7 @@ use Rattle.mq_journal.specs.Numbers.{Seat, reported}
 use Rattle.mq_tree.specs.declared.request.Reply.{Reply}
 use Rattle.mq_turns.specs.declared.rule.Report.{Report}
 use Rattle.mq_turns.specs.declared.rule.Report.TheVariants.{Sent}
-use Rattle.mq_calls.specs.Acts.{Call, Commits}
+use Rattle.mq_calls.specs.Acts.{Call, Commits, IsUnderWay}
 
 module _ {P : Type 0} {G : Ghosts P} where
   -- who the session is
@@ -17,7 +17,7 @@ module _ {P : Type 0} {G : Ghosts P} where
     pub session : new.session ≡ old.session
 
   -- It has drawn the entry at the number, above all that it had seen, and reported this of the queue's
-  -- port. It holds no turn any more, and may know of more that is done.
+  -- port. It holds no turn any more, and may know of more that is done, but not that the number is.
   pub record HasDrawn (e : FileEntry) (q at : ℕ) (r : Report) (old new : Seat P FileEntry G) : Type 0 where
     pub seat : SameSeat old new
     pub held : new.held ≡ []
@@ -26,10 +26,11 @@ module _ {P : Type 0} {G : Ghosts P} where
     pub above : old.seen < at
     pub seen : new.seen ≡ at
     pub done : old.reading.done ≤ new.reading.done
+    pub under : IsUnderWay q at new
     pub answers : new.reading.answers ≡ old.reading.answers
     pub charged : new.reading.charged ≡ reported q r ∷ old.reading.charged
 
   -- what a group that changes something came to: it is a commit, and rung, at the newest number that the
-  -- session knows of
+  -- session knows of; and it is not known to be done
   abbrev pub IsCommitted : Geometry → Call → List Reply → (at : ℕ) → Seat P FileEntry G → Seat P FileEntry G → Type 0
-  IsCommitted g c replies at old new = Commits g c replies at (Sent at) old new × (new.seen ≡ at)
+  IsCommitted g c replies at old new = Commits g c replies at (Sent at) old new × (new.seen ≡ at) × IsUnderWay c.session at new

@@ -1,18 +1,22 @@
 -- The steps by which a group is prepared on the side of its queue.
-use Rattle.std.specs.Prelude.{◌≡◌, ◌<◌, ℕ, List, Option, Some, None, vec_len, vec_capacity}
+use Rattle.std.specs.Prelude.{◌≡◌, ◌⊎◌, ◌<◌, ◌≤◌, ℕ, List, Option, Some, None, Result, vec_len, vec_capacity}
 use Rattle.mq_blocks.specs.Drive.{PortState}
+use Rattle.mq_blocks.specs.Geometry.{area_of}
 use Rattle.mq_drive.specs.Steps.{PortFault}
 use Rattle.mq_drive.specs.declared.port.Port.{Ghosts}
 use Rattle.mq_exec.specs.declared.outcome.Done.{Done}
 use Rattle.mq_files.specs.Group.{file_group}
 use Rattle.mq_files.specs.declared.entry.FileEntry.{FileEntry}
 use Rattle.mq_files.specs.declared.entry.Reads.{Reads}
+use Rattle.mq_journal.specs.Held.{IsDrainOf}
+use Rattle.mq_journal.specs.Laws.{HaveSameParts}
 use Rattle.mq_journal.specs.Numbers.{HoldsSide, Seat, Start}
 use Rattle.mq_revoke.specs.Placed.{Placed}
 use Rattle.mq_side.specs.Commits.{commit_by}
-use Rattle.mq_side.specs.Stored.{IsBounded, rows_of}
+use Rattle.mq_side.specs.Stored.{FitIs, IsBounded, rows_of}
 use Rattle.mq_side.specs.declared.answers.Cause.{Cause}
 use Rattle.mq_side.specs.declared.answers.Cause.TheVariants.{Stopped}
+use Rattle.mq_side.specs.declared.answers.Fit.TheVariants.{Ring}
 use Rattle.mq_side.specs.declared.answers.Why.{Why}
 use Rattle.mq_side.specs.declared.side.QueueSide.{QueueSide}
 use Rattle.mq_calls.specs.Acts.{Call}
@@ -45,3 +49,20 @@ module _ {P : Type 0} {G : Ghosts P} (state : P → PortState) (faults : P → L
   -- the session holds it as the side of its queue
   abbrev pub IsSideOf : Start P FileEntry G → QueueSide P FileEntry G → Seat P FileEntry G → Type 0
   IsSideOf o s v = HoldsSide state faults file_group o s.pmr.queue s v
+
+  -- The side is as it was; or its ring had too little room for what is placed so, which fits the journal area
+  -- by this base, and it was drained.
+  abbrev pub IsDrainedForRoom : (base : ℕ) → Placed → QueueSide P FileEntry G → QueueSide P FileEntry G → Type 0
+  IsDrainedForRoom base plan old new =
+      (new ≡ old)
+      ⊎ (FitIs (area_of old.pmr.geometry) base (rows_of old.stored.items) (state old.pmr.port) plan Ring
+      × ((answer : Result (Unit {0}) Cause) × IsDrainOf state faults old new answer))
+
+  -- So it is by a base that the session has read. Of the side nothing has changed beside that but its room
+  -- for entries.
+  pub record IsMadeReady (plan : Placed) (v : Seat P FileEntry G) (old new : QueueSide P FileEntry G) : Type 0 where
+    pub base : ℕ
+    pub read : base ≤ v.reading.base
+    pub between : QueueSide P FileEntry G
+    pub drained : IsDrainedForRoom base plan old between
+    pub same : HaveSameParts between new

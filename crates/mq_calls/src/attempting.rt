@@ -2,7 +2,7 @@
 ghost use Rattle.std.specs.Prelude.{◌≡◌, ◌<◌, ◌≤◌, IfErr, IfOk};
 ghost use Rattle.mq_files.specs.Entries.{IsUndrawn};
 ghost use Rattle.mq_turns.specs.AtDesk.{AtDesk, start_of, view};
-ghost use Rattle.mq_calls.specs.Acts.{Acts, GoesOn};
+ghost use Rattle.mq_calls.specs.Acts.{Acts, GoesOn, WaitsForNone};
 ghost use Rattle.mq_calls.specs.Calling.{HasLeft, IsHolding, IsReadOf, call_of};
 ghost use Rattle.mq_calls.specs.Committing.{IsMissed};
 ghost use Rattle.mq_calls.specs.Sessions.{IsReady};
@@ -86,6 +86,8 @@ impl<P: Port + Drop> Mqfs<P> {
         ensures goes { GoesOn (view session.old.chair) (view session.new.chair) }
         ensures acts { IfOk result (λ a. Acts self.now.geometry (call_of asked.now) a.at a.drew a.replies.items
             (view session.old.chair) (view session.new.chair)) }
+        ensures waits { IfOk result (λ a. WaitsForNone asked.now.queue a.at a.drew
+            (view session.old.chair) (view session.new.chair)) }
         ensures seen { IfOk result (λ a. a.at ≤ (view session.new.chair).seen) }
         ensures missed { IfErr result (λ m. IsMissed P.state P.faults self.now.geometry (call_of asked.now)
             (view session.old.chair) (view session.new.chair) m) }
@@ -144,6 +146,8 @@ impl<P: Port + Drop> Mqfs<P> {
         ensures calls { session.new.calls ≡ session.old.calls }
         ensures goes { GoesOn (view session.old.chair) (view session.new.chair) }
         ensures acts { IfOk result (λ a. Acts self.now.geometry (call_of asked.now) a.at a.drew a.replies.items
+            (view session.old.chair) (view session.new.chair)) }
+        ensures waits { IfOk result (λ a. WaitsForNone asked.now.queue a.at a.drew
             (view session.old.chair) (view session.new.chair)) }
         ensures seen { IfOk result (λ a. a.at ≤ (view session.new.chair).seen) }
         ensures missed { IfErr result (λ m. IsMissed P.state P.faults self.now.geometry (call_of asked.now)

@@ -3,7 +3,7 @@ ghost use Rattle.std.specs.Prelude.{◌≡◌, ◌+◌, ◌<◌, ◌≤◌, IfEr
 ghost use Rattle.mq_files.specs.Group.{file_group};
 ghost use Rattle.mq_journal.specs.Sweeping.{HasSwept};
 ghost use Rattle.mq_turns.specs.AtDesk.{AtDesk, view};
-ghost use Rattle.mq_calls.specs.Acts.{GoesOn, HasActed, IsAreaFull, IsRefused, cause_of};
+ghost use Rattle.mq_calls.specs.Acts.{GoesOn, HasActed, HasNotWaited, IsAreaFull, IsRefused, cause_of};
 ghost use Rattle.mq_calls.specs.Calling.{call_by, call_of};
 ghost use Rattle.mq_calls.specs.Sessions.{IsReady};
 ghost use Rattle.mq_calls.specs.Synchronizing.{IsDurable, IsNotDurable, WasDrainRefused};
@@ -102,6 +102,10 @@ impl<P: Port + Drop> Mqfs<P> {
             → IsAreaFull P.state P.faults self.now.geometry (call_of asked.now) first (view session.old.chair)
             → HasActed P.state P.faults self.now.geometry (call_of asked.now) a.at a.drew a.replies.items
             first (view session.new.chair)) }
+        ensures waits { IfOk result (λ a. (first : _)
+            → IsAreaFull P.state P.faults self.now.geometry (call_of asked.now) first (view session.old.chair)
+            → HasNotWaited P.state P.faults self.now.geometry (call_of asked.now) a.at a.drew
+            first (view session.new.chair)) }
         ensures seen { IfOk result (λ a. a.at ≤ (view session.new.chair).seen) }
         ensures refused { IfErr result (λ r. (first : _)
             → IsAreaFull P.state P.faults self.now.geometry (call_of asked.now) first (view session.old.chair)
@@ -139,6 +143,9 @@ impl<P: Port + Drop> Mqfs<P> {
         ensures goes { GoesOn (view session.old.chair) (view session.new.chair) }
         ensures acts { IfOk result (λ a. HasActed P.state P.faults self.now.geometry
             (call_by session.old.queue session.old.calls durable requests.now) a.at a.drew a.replies.items
+            (view session.old.chair) (view session.new.chair)) }
+        ensures waits { IfOk result (λ a. HasNotWaited P.state P.faults self.now.geometry
+            (call_by session.old.queue session.old.calls durable requests.now) a.at a.drew
             (view session.old.chair) (view session.new.chair)) }
         ensures seen { IfOk result (λ a. a.at ≤ (view session.new.chair).seen) }
         ensures refused { IfErr result (λ r. IsRefused P.state P.faults self.now.geometry
@@ -185,6 +192,9 @@ impl<P: Port + Drop> Mqfs<P> {
         ensures goes { GoesOn (view session.old.chair) (view session.new.chair) }
         ensures acts { IfOk result (λ a. HasActed P.state P.faults self.now.geometry
             (call_by session.old.queue session.old.calls false requests.now) a.at a.drew a.replies.items
+            (view session.old.chair) (view session.new.chair)) }
+        ensures waits { IfOk result (λ a. HasNotWaited P.state P.faults self.now.geometry
+            (call_by session.old.queue session.old.calls false requests.now) a.at a.drew
             (view session.old.chair) (view session.new.chair)) }
         ensures refused { IfErr result (λ r. IsRefused P.state P.faults self.now.geometry
             (call_by session.old.queue session.old.calls false requests.now)

@@ -15,8 +15,9 @@ use std::sync::Wait;
 
 impl<P: Port + Drop> Mqfs<P> {
     /// Makes a checkpoint while other sessions commit: what waits in the journal areas is written home, and
-    /// the base is raised to the number that is returned. The areas then have room for transactions above
-    /// it. After a refusal this call has not raised the base, and the session may go on.
+    /// the base is raised to the number that is returned, unless it stands there already. The areas then
+    /// have room for transactions above it. After a refusal this call has not raised the base, and the
+    /// session may go on.
     pub fn checkpoint<R: Wait>(
         &self,
         rt: &R,

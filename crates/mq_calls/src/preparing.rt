@@ -13,7 +13,7 @@ ghost use Rattle.mq_turns.specs.AtDesk.{AtDesk, start_of, view};
 ghost use Rattle.mq_calls.specs.Calling.{IsAsking, IsEntryFor, call_of};
 ghost use Rattle.mq_calls.specs.Committing.{HasRead, HoldsCommit, IsObstacle, IsPlacedOn, IsPrepared, HasNoRoom, ReadsWords};
 ghost use Rattle.mq_calls.specs.Pages.{IsSeen};
-ghost use Rattle.mq_calls.specs.Preparing.{IsEntryReady, IsSideOf, KeepsSide, cause_kept};
+ghost use Rattle.mq_calls.specs.Preparing.{IsDrainedForRoom, IsEntryReady, IsMadeReady, IsSideOf, KeepsSide, cause_kept};
 ghost use Rattle.mq_calls.specs.Runs.{IsDoneOnCells, files, geometry_at};
 ghost use Rattle.mq_calls.specs.declared.committing.Obstacle.TheVariants as obstacle;
 
@@ -93,6 +93,7 @@ fn make_room<P: Port + Drop>(
     requires few { length plan.now.logged + length plan.now.direct ≤ write_limit side.old.pmr.geometry }
     ensures side { IsSideOf P.state P.faults (start_of desk.now) side.new (view chair.now) }
     ensures keeps { KeepsSide side.old side.new }
+    ensures drains { IsDrainedForRoom P.state P.faults base plan.now side.old side.new }
     ensures none { OnOk result (side.new.kept ≡ None) }
     ensures fits { OnOk result (FitIs (area_of side.new.pmr.geometry) base
         (rows_of side.new.stored.items) (P.state side.new.pmr.port) plan.now Yes) }
@@ -100,12 +101,13 @@ fn make_room<P: Port + Drop>(
         side.new (view chair.now)) }
 {
     match side.fits(plan, base) {
-        Fit::Yes => Ok(()),
-        Fit::Area => Err(Obstacle::Area),
-        Fit::Ring => match drain_held(desk, chair, side) {
-            Ok(()) => Ok(()),
-            Err(cause) => Err(Obstacle::Drive(cause)),
-        },
+        Fit::Yes => return Ok(()),
+        Fit::Area => return Err(Obstacle::Area),
+        Fit::Ring => {}
+    }
+    match drain_held(desk, chair, side) {
+        Ok(()) => Ok(()),
+        Err(cause) => Err(Obstacle::Drive(cause)),
     }
 }
 
@@ -168,6 +170,7 @@ pub(crate) fn make_ready<P: Port + Drop>(
     ensures at { AtDesk desk.now chair.new }
     ensures words { ReadsWords (view chair.old) (view chair.new) }
     ensures keeps { KeepsSide side.old side.new }
+    ensures drains { IsMadeReady P.state P.faults into.new (view chair.new) side.old side.new }
     ensures holds { HoldsCommit P.state P.faults (start_of desk.now) asked.now.queue held.now.cells
         side.new (view chair.new) }
     ensures ready { IfOk result (IsPrepared P.state P.faults (start_of desk.now) (call_of asked.now) done.now

@@ -20,7 +20,7 @@ use mq_turns::{Chair, Desk};
 use std::alloc::Global;
 use std::sync::Wait;
 
-// Runs the group on the pages that are held, until none is missing. The pages stay held even if memory
+// Runs the group, fetching missing pages until none is missing. The pages stay held even if memory
 // runs out.
 fn run_in_rounds<P: Port + Drop, R: Wait>(
     rt: &R,

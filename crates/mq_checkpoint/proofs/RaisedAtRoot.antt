@@ -40,7 +40,7 @@ use Rattle.mq_turns.specs.declared.turn.Turn.TheVariants as turn
 use Rattle.mq_turns.proofs.Lists.{hit}
 use Rattle.mq_turns.proofs.DeskSeen.{opening_seen, sees_before, stands_held, stands_renewed}
 use Rattle.mq_turns.proofs.DeskSlots.{turn_at_slot}
-use Rattle.mq_checkpoint.specs.Raised.{IsReportedOfRoot, IsStored, KeepsStanding, ShowsRootReport, reported_root}
+use Rattle.mq_checkpoint.specs.Raised.{HasRaised, IsReportedOfRoot, IsStored, KeepsStanding, ShowsRootReport, reported_root}
 use Rattle.mq_checkpoint.specs.Steps.{IsRefusedBy, at_root}
 use Rattle.mq_checkpoint.proofs.RaisedHomeSide.{backed_by}
 use Rattle.mq_checkpoint.proofs.PagesHomeViews.{known_seen}
@@ -67,6 +67,12 @@ stands_after old new base m (Ok x) is done cut = record {
   bound = subst (IsBoundKept old) (sym done) (record { fuse = refl; fail = refl });
 }
 stands_after old new base m (Err e) is done cut = stands_cut old new base (subst (λ n. IsRaiseCut old n new) is cut)
+
+pub raised_after : {P : Type 0} {G : Ghosts P} (state : P → PortState) (s u : Root P G) (base m : ℕ) (r : Result (Unit {0}) Off) → m ≡ max base (state s.port).stored_base → (state s.port).base < base → OnOk r (state u.port ≡ after_raise (state s.port) m) → OnOk r (HasRaised state (state u.port).base s u)
+raised_after state s u base m (Ok x) is below done =
+    let now : (state u.port).base ≡ m = ap (λ (p : PortState). p.base) done in
+    inr (omega arith, done ∙ ap (after_raise (state s.port)) (sym now))
+raised_after state s u base m (Err e) is below done = tt
 
 -- ---- the root is taken by a session that holds nothing
 
@@ -141,16 +147,21 @@ module _ {P E : Type 0} {G : Ghosts P} (state : P → PortState) (faults : P →
           let now = opening_seen μ o K v2 (ap (λ (w : Seat P E G). w.opening) was ∙ opening_is) sees in
           stands_renewed {M = ℕ} μ (laws values group) (λ k. same_turn turn.Root (turn_at K3.opening k)) (raised b K3) K v1 v2 turn.Root slot (item.Root u) (ap (λ (w : Seat P E G). w.held) was) mine holds (ap (λ z. turn_at z slot) now ∙ there) sees root_then
 
-      pub stored_base : (w : Seat P E G) → w ≡ giving slot v2 → IsStored state faults group b v w
-      stored_base w gave =
+      pub stored_base : (w : Seat P E G) → w ≡ giving slot v2 → HasRaised state (state u.port).base s u → IsStored state faults group b v w
+      stored_base w gave raise =
           let whole : w ≡ giving slot (Words.after_raise b K3 (holding slot K1 v)) = gave ∙ (ap (giving slot) was ∙ ap (λ z. giving slot (Words.after_raise b K3 z)) took) in
           let rest = gone slot (λ k. same_turn turn.Root (turn_at K3.opening k)) (raised b K3) K1 v.held idle in
           record {
             raised_to = record {
+              taken = K1;
+              from = known_seen state faults group v K1 sees1;
+              before = s;
+              lay = is;
               known = K3;
               since = known_seen state faults group v K3 (before K3 sees3);
               ok = (may_raise K3 sees3).1;
               root = u;
+              raise = subst (λ n. HasRaised state n s u) (sym b_is) raise;
               flushed = sym b_is;
               stood = root_then;
             };

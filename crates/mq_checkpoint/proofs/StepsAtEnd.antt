@@ -116,10 +116,15 @@ module _ {P E : Type 0} {G : Ghosts P} (state : P → PortState) (faults : P →
     read = ap (λ (z : Seat P E G). z.reading.answers) st.is ∙ m.answers;
     reached = reached;
     raised_to = record {
+      taken = st.raised_to.taken;
+      from = known_before state faults group [] (Front front ∷ []) v u st.raised_to.taken m st.raised_to.from;
+      before = st.raised_to.before;
+      lay = st.raised_to.lay;
       known = st.raised_to.known;
       since = known_before state faults group [] (Front front ∷ []) v u st.raised_to.known m st.raised_to.since;
       ok = st.raised_to.ok;
       root = st.raised_to.root;
+      raise = st.raised_to.raise;
       flushed = st.raised_to.flushed;
       stood = st.raised_to.stood;
     };

@@ -18,7 +18,8 @@ use std::alloc::Global;
 use std::sync::Wait;
 
 /// Writes home each page that waits for it, page by page while other sessions commit, and raises the base,
-/// so that the journal areas have room for what comes above it. Returns the base.
+/// so that the journal areas have room for what comes above it. Returns the base. Where the root has
+/// flushed it before, its port stores and flushes nothing.
 ///
 /// The chair holds nothing before and after, and at most one page and one port at a time. The geometry is
 /// that of the desk's sides, with a page for each home block and a side for each queue. After a refusal

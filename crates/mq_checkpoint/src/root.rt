@@ -8,7 +8,7 @@ ghost use Rattle.mq_turns.specs.AtDesk.{AtDesk, view, start_of};
 ghost use Rattle.mq_turns.specs.Desk.{Sees, slot_of};
 ghost use Rattle.mq_turns.specs.Lists.{times};
 ghost use Rattle.mq_turns.specs.declared.turn.Turn.TheVariants as turn;
-ghost use Rattle.mq_checkpoint.specs.Raised.{IsReportedOfRoot, IsStored, KeepsStanding, ShowsRootReport};
+ghost use Rattle.mq_checkpoint.specs.Raised.{HasRaised, IsReportedOfRoot, IsStored, KeepsStanding, ShowsRootReport};
 ghost use Rattle.mq_checkpoint.specs.Steps.{IsRefusedBy};
 
 use mq_blocks::TxNo;
@@ -46,6 +46,7 @@ pub(crate) fn report_root<P: Port + Drop, G: Groups>(
 // before, and not flushed, is stored again.
 fn store<P: Port>(root: &mut Root<P>, base: TxNo) -> Result<(), Off>
     ensures stored { OnOk result (base ≤ (P.state root.new.port).base) }
+    ensures raised { OnOk result (HasRaised P.state (P.state root.new.port).base root.old root.new) }
     ensures stands { KeepsStanding base (P.state root.old.port) (P.state root.new.port) }
     ensures cause { OffCause result (P.faults root.old.port) (P.faults root.new.port) }
 {

@@ -9,8 +9,8 @@ use std::thread::yield_now;
 // How often a thread looks whether the other one has come so far.
 const TURNS: u64 = 10_000_000;
 
-// Whether this comes to be true within the turns.
-fn comes(flag: &AtomicBool) -> bool {
+/// Whether this comes to be true within the turns.
+pub fn comes(flag: &AtomicBool) -> bool {
     for _ in 0..TURNS {
         if flag.load(SeqCst) {
             return true;

@@ -1,0 +1,2 @@
+pub mod LaidMaps
+pub mod LiftedCells

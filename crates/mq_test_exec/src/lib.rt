@@ -1,13 +1,14 @@
-//! Tests of the calls on held pages and of groups of requests, through what these crates offer.
+//! Tests of the file system that no table of calls shows: how often a group asks for pages, a directory
+//! with as many names as one may have, and where a block is not in its form.
 #![tactic(auto)]
 
 #[cfg(test)]
-mod asks;
+mod blocks;
 #[cfg(test)]
-mod empty;
+mod directory;
 #[cfg(test)]
-mod groups;
+mod lifting;
 #[cfg(test)]
-mod inodes;
+mod refusals;
 #[cfg(test)]
-mod outcomes;
+mod rounds;

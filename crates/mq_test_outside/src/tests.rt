@@ -1,9 +1,6 @@
-// Each form called through its trait once, and what no contract says.
-use mq_outside::{
-    Files, LoadRefusal, MemFiles, MemSink, PutRefusal, RealFiles, RealSink, SaveRefusal, Sink,
-    SureFiles, SureSink, put_all,
-};
-use std::alloc::{AllocError, Global};
+// The files of the system, a pipe, and the output, of which no contract says what they hold.
+use mq_outside::{Files, LoadRefusal, RealFiles, RealSink, SaveRefusal, put_all};
+use std::alloc::AllocError;
 use std::io::Write;
 use std::os::fd::AsRawFd;
 use std::test::Fail;
@@ -15,75 +12,6 @@ fn gave(loaded: Result<Vec<u8>, LoadRefusal>, bytes: &[u8]) -> bool {
         Ok(v) => v.as_slice() == bytes,
         Err(_) => false,
     }
-}
-
-// Files with one name, of which the calls listed fail.
-fn one_name(alloc: Global, fail: &[u64]) -> Result<MemFiles, AllocError> {
-    let name = String::from_str(alloc, "image")?;
-    let bytes = Vec::from_slice(alloc, b"old bytes")?;
-    let names = vec![in alloc; (name, bytes)]?;
-    Ok(MemFiles::new(alloc, names, Vec::from_slice(alloc, fail)?))
-}
-
-#[test]
-fn memory_loads_what_was_saved(rt: HostRuntime) -> Result<(), AllocError> {
-    let alloc = rt.alloc();
-    let mut files = one_name(alloc, &[])?;
-    assert!(rt; gave(files.load(alloc, "image"), b"old bytes"));
-    assert!(rt; files.save("image", b"new").is_ok());
-    assert!(rt; files.save("other", b"second").is_ok());
-    assert!(rt; gave(files.load(alloc, "image"), b"new"));
-    assert!(rt; files.get("other") == Some(b"second".as_slice()));
-    assert!(rt; files.get("absent").is_none());
-    assert!(rt; matches!(files.load(alloc, "absent"), Err(LoadRefusal::Failed)));
-    Ok(())
-}
-
-#[test]
-fn memory_fails_the_calls_that_are_listed(rt: HostRuntime) -> Result<(), AllocError> {
-    let alloc = rt.alloc();
-    let mut files = one_name(alloc, &[2, 3])?;
-    assert!(rt; files.load(alloc, "image").is_ok());
-    assert!(rt; matches!(files.save("image", b"new"), Err(SaveRefusal::Failed)));
-    assert!(rt; matches!(files.load(alloc, "image"), Err(LoadRefusal::Failed)));
-    assert!(rt; gave(files.load(alloc, "image"), b"old bytes"));
-    Ok(())
-}
-
-#[test]
-fn sinks_take_pieces_of_64(rt: HostRuntime) -> Result<(), AllocError> {
-    let alloc = rt.alloc();
-    let mut sink = MemSink::new(alloc, Vec::new(alloc));
-    assert!(rt; sink.put(&[7; 200]) == Ok(64));
-    assert!(rt; sink.put(&[8; 64]) == Ok(64));
-    assert!(rt; sink.put(&[9; 3]) == Ok(3));
-    assert_eq!(rt; sink.written().len(), 131);
-    let mut certain = SureSink::new(alloc);
-    assert!(rt; put_all(&mut certain, &[5; 200]).is_ok());
-    assert!(rt; certain.written() == [5; 200].as_slice());
-    Ok(())
-}
-
-#[test]
-fn a_fault_in_mid_stream_leaves_a_prefix(rt: HostRuntime) -> Result<(), AllocError> {
-    let alloc = rt.alloc();
-    let mut sink = MemSink::new(alloc, Vec::from_slice(alloc, &[3])?);
-    assert!(rt; put_all(&mut sink, &[7; 200]) == Err(PutRefusal::Failed));
-    assert!(rt; sink.written() == [7; 128].as_slice());
-    assert!(rt; put_all(&mut sink, &[7; 72]).is_ok());
-    assert!(rt; sink.written() == [7; 200].as_slice());
-    Ok(())
-}
-
-#[test]
-fn sure_files_are_empty_at_first(rt: HostRuntime) -> Result<(), AllocError> {
-    let alloc = rt.alloc();
-    let mut files = SureFiles::new(alloc);
-    assert!(rt; gave(files.load(alloc, "image"), b""));
-    assert!(rt; files.save("image", b"new").is_ok());
-    assert!(rt; gave(files.load(alloc, "image"), b"new"));
-    assert!(rt; files.get("other") == Some(b"".as_slice()));
-    Ok(())
 }
 
 #[test]

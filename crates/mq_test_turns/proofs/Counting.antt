@@ -6,9 +6,9 @@ use Rattle.std.specs.Prelude.{slice_get, slice_index_or}
 use Rattle.mq_turns.specs.Chairs.{Starts, holding}
 use Rattle.mq_turns.specs.Desk.{Follows, fresh, allotment}
 use Rattle.mq_turns.specs.Lists.{Each, tick, times}
-use Rattle.mq_turns.specs.Meaning.{Apart, AreLaws, Stays, newest, drawn, claimed, raised}
+use Rattle.mq_turns.specs.Meaning.{Apart, AreLaws, Stays, newest, drawn, claimed}
 use Rattle.mq_turns.specs.Marks.{mark_of, claim_of}
-use Rattle.mq_turns.specs.Words.{same_turn, after_clear, after_raise}
+use Rattle.mq_turns.specs.Words.{same_turn, after_clear}
 use Rattle.mq_turns.specs.Desk.{IsTurn, slot_of, turn_at, refreshed, Stay, Sees, Covers, Stands, after_draw}
 use Rattle.mq_test_turns.specs.Counting.{votes, Counted, counting, vote_touches}
 use Rattle.mq_turns.specs.declared.rule.Opening.{Opening}
@@ -17,7 +17,7 @@ use Rattle.mq_turns.specs.declared.rule.ChairView.{ChairView}
 use Rattle.mq_turns.specs.declared.turn.Turn.{Turn}
 use Rattle.mq_turns.specs.declared.turn.Turn.TheVariants.{Page, Side, Root}
 use Rattle.mq_turns.specs.declared.turn.Item.TheVariants as item
-use Rattle.mq_turns.proofs.DeskSeen.{opening_seen, turn_seen, mark_stays, stands_renewed}
+use Rattle.mq_turns.proofs.DeskSeen.{opening_seen, turn_seen, mark_stays}
 use Rattle.mq_turns.proofs.DeskSlots.{turn_at_slot}
 use Rattle.mq_turns.proofs.Lists.{hit}
 
@@ -142,24 +142,3 @@ module _ {E Q : Type 0} (queue session group : E → ℕ) (state : Q → ℕ) (o
 
   pub follows_fresh : (e : E) (i : ℕ) (v : ChairView ℕ Q ℕ E) → v ≡ fresh o i → session e ≡ i → Follows (counting queue session group state) e v
   follows_fresh e i v is own = let F : ChairView ℕ Q ℕ E → Type 0 = λ u. Follows (counting queue session group state) e u in subst F (sym is) record { session = own; drawn = tt; read = tt }
-
--- the root of a chair that holds it alone
-module _ {E Q : Type 0} (queue session group : E → ℕ) (state : Q → ℕ) (o : Opening ℕ Q ℕ) (v : ChairView ℕ Q ℕ E) (K0 : Known ℕ Q ℕ E) (opening : v.opening ≡ Some o) (held : v.held ≡ (slot_of o Root, K0) ∷ []) where
-  abbrev ν : Rattle.mq_turns.specs.Meaning.Meaning ℕ Q ℕ E
-  ν = counting queue session group state
-
-  pub root_held : 0 < times (slot_of o Root) v.held
-  root_held = let one = hit (slot_of o Root) (slot_of o Root) refl in let e : times (slot_of o Root) v.held ≡ tick (slot_of o Root) (slot_of o Root) + 0 = ap (times (slot_of o Root)) held in omega arith
-
-  pub root_word : (K : Known ℕ Q ℕ E) → Sees ν v K → K.word ≡ K0.word
-  root_word K sees =
-      let all = subst (λ (l : List (ℕ × Known ℕ Q ℕ E)). Each (λ h. ν.ok h.1 × Stay ν (turn_at K.opening h.0) h.1 K) l) held sees.held in
-      (subst (λ t. Stay ν t K0 K) (turn_seen ν o K v Root opening sees tt) all.0.1).word refl
-
-  -- after a raise
-  pub root_raised : (M : Type 0) (base : ℕ) (L K : Known ℕ Q ℕ E) (w : ChairView ℕ Q ℕ E) → w ≡ after_raise base L v → Sees ν v L → Sees ν w K → Stands {M = M} ν Root K (item.Root base)
-  root_raised M base L K w is sees seen =
-      let now : (raised base L).opening ≡ o = opening_seen ν o L v opening sees in
-      let about : same_turn Root (turn_at (raised base L).opening (slot_of o Root)) ≡ true = ap (λ p. same_turn Root (turn_at p (slot_of o Root))) now ∙ ap (same_turn Root) (turn_at_slot o Root tt) in
-      stands_renewed {M = M} ν (laws queue session group state) (λ k. same_turn Root (turn_at (raised base L).opening k)) (raised base L) K v w Root (slot_of o Root) (item.Root base)
-      (ap (λ (u : ChairView ℕ Q ℕ E). u.held) is) about root_held (turn_seen ν o K w Root (ap (λ (u : ChairView ℕ Q ℕ E). u.opening) is ∙ opening) seen tt) seen refl

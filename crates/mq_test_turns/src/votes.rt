@@ -1,10 +1,8 @@
 // A machine that is generic in a port, under whose sides ports lie, and threads that draw by it.
 ghost use Rattle.std.specs.Prelude.{◌≡◌, ℕ, ◌+◌, ◌%◌, ◌^◌, ◌<◌, ◌≤◌, [], ◌∷◌, All, Some, IfOk, OnOk, length, slice_get, vec_len, vec_capacity};
-ghost use Rattle.mq_turns.specs.Marks.{DoneTo};
-ghost use Rattle.mq_turns.specs.Desk.{Follows, Sees, allotment, fresh};
+ghost use Rattle.mq_turns.specs.Desk.{Follows, allotment, fresh};
 ghost use Rattle.mq_turns.specs.AtDesk.{AtDesk, view, start_of, chairs_of};
 ghost use Rattle.mq_test_turns.specs.Counting.{counting};
-ghost use Rattle.mq_turns.specs.declared.rule.Known.{Known};
 ghost use Rattle.mq_test_turns.specs.declared.votes.QueueSide.{QueueSide};
 ghost use Rattle.mq_test_turns.specs.declared.votes.Vote.{Vote};
 
@@ -13,7 +11,7 @@ use mq_turns::{Chair, Desk, Item, Machine, Turn};
 use std::alloc::Global;
 use std::marker::PhantomData;
 use std::sync::Wait;
-use std::thread::{self, Threads, join};
+use std::thread::{Threads, join};
 
 pub(crate) trait Port: Drop {
     ghost state: { Self → ℕ };
@@ -124,57 +122,6 @@ fn cast<P: Port, R: Wait>(
     }
 }
 
-// Looks, and then clears each queue in turn: all numbers up to the one that it saw are known done.
-fn clear_all<P: Port, R: Wait>(
-    rt: &R,
-    desk: &Desk<Counting<P>>,
-    chair: &mut Chair<Counting<P>>,
-    sides: u32,
-) -> TxNo
-    requires at { AtDesk desk.now chair.old }
-    requires sides { sides ≡ length (start_of desk.now).sides }
-    requires idle { (view chair.old).held ≡ [] }
-    ensures at { AtDesk desk.now chair.new }
-    ensures idle { (view chair.new).held ≡ [] }
-    ensures done { (K : Known ℕ (QueueSide P) ℕ Vote)
-        → Sees (counting (λ (e : Vote). e.queue) (λ e. e.session) (λ e. e.group)
-        (λ (q : QueueSide P). P.state q.port))
-        (view chair.new) K
-        → DoneTo (counting (λ (e : Vote). e.queue) (λ e. e.session) (λ e. e.group)
-        (λ (q : QueueSide P). P.state q.port)) result K }
-{
-    let last = desk.look(chair, None);
-    for index in 0..sides {
-        let queue = QueueNo(index);
-        let Item::Side(side) = desk.take(rt, chair, Turn::Side(queue)) else {
-            unreachable!()
-        };
-        desk.clear(chair, queue, u64::MAX);
-        desk.give_back(chair, Turn::Side(queue), Item::Side(side));
-    }
-    last
-}
-
-// Raises the base to the number, where it is below it, and the root with it.
-fn raise_to<P: Port, R: Wait>(
-    rt: &R,
-    desk: &Desk<Counting<P>>,
-    chair: &mut Chair<Counting<P>>,
-    number: TxNo,
-)
-    requires at { AtDesk desk.now chair.old }
-    requires idle { (view chair.old).held ≡ [] }
-    ensures at { AtDesk desk.now chair.new }
-    ensures idle { (view chair.new).held ≡ [] }
-{
-    let Item::Root(base) = desk.take(rt, chair, Turn::Root) else {
-        unreachable!()
-    };
-    let raised = base.max(number.0);
-    desk.raise(chair, TxNo(raised));
-    desk.give_back(chair, Turn::Root, Item::Root(raised));
-}
-
 type Opened = (Desk<Counting<Word>>, Vec<Chair<Counting<Word>>>);
 
 // A desk with the given number of sides, whose ports stand at 0. Its root is the base.
@@ -257,68 +204,6 @@ fn cast_many<R: Wait>(rt: &R, desk: &Desk<Counting<Word>>, task: Task) -> Drawn
     (chair, numbers)
 }
 
-// Waits until a look gives this number, and casts one vote: what it saw before, drew, and saw after.
-fn cast_from<R: Wait>(rt: &R, desk: &Desk<Counting<Word>>, task: Task, from: u64) -> Drawn
-    requires at { AtDesk desk.now task.chair × (view task.chair ≡ fresh (start_of desk.now) task.session) }
-    requires queue { task.queue < length (start_of desk.now).sides }
-    requires room { (task.numbers.items ≡ [])
-        × (vec_capacity task.numbers ≡ 3)
-        × (0 < allotment (chairs_of desk.now)) }
-    ensures { AtDesk desk.now result.0 × ((view result.0).held ≡ []) }
-{
-    let Task {
-        mut chair,
-        queue,
-        session,
-        mut numbers,
-    } = task;
-    for _ in rt.forever() {
-        if desk.look(&mut chair, None).0 >= from {
-            break;
-        }
-        thread::yield_now();
-    }
-    let entry = Vote {
-        queue,
-        session: u64::from(session),
-        group: 0,
-    };
-    let round = cast(rt, desk, &mut chair, &entry);
-    numbers.push_reserved(round.before.0);
-    numbers.push_reserved(round.number.0);
-    numbers.push_reserved(round.after.0);
-    (chair, numbers)
-}
-
-// The second chair takes the side after the first has drawn.
-fn cast_one_after_the_other<R: Threads + Wait + Sync>(
-    rt: &R,
-    desk: &Desk<Counting<Word>>,
-    a: Task,
-    b: Task,
-) -> (Drawn, Drawn)
-    requires a { AtDesk desk.now a.chair
-        × (view a.chair ≡ fresh (start_of desk.now) a.session)
-        × (a.queue < length (start_of desk.now).sides)
-        × (a.numbers.items ≡ [])
-        × (vec_capacity a.numbers ≡ 3)
-        × (0 < allotment (chairs_of desk.now)) }
-    requires b { AtDesk desk.now b.chair
-        × (view b.chair ≡ fresh (start_of desk.now) b.session)
-        × (b.queue < length (start_of desk.now).sides)
-        × (b.numbers.items ≡ [])
-        × (vec_capacity b.numbers ≡ 3)
-        × (0 < allotment (chairs_of desk.now)) }
-    ensures a { AtDesk desk.now result.0.0 × ((view result.0.0).held ≡ []) }
-    ensures b { AtDesk desk.now result.1.0 × ((view result.1.0).held ≡ []) }
-{
-    join(
-        rt,
-        || cast_from(rt, desk, a, 10),
-        || cast_from(rt, desk, b, 11),
-    )
-}
-
 fn cast_by_two<R: Threads + Wait + Sync>(
     rt: &R,
     desk: &Desk<Counting<Word>>,
@@ -390,107 +275,13 @@ fn front_and_base_follow_a_number(rt: HostRuntime) -> Result<(), OutOfMemory> {
     );
     assert_eq!(rt; [round.undone.0, round.done.0], [10, 11]);
     assert_eq!(rt; desk.base(&mut chair).0, 10);
-    raise_to(&rt, &desk, &mut chair, TxNo(11));
-    assert_eq!(rt; desk.base(&mut chair).0, 11);
-    assert_eq!(rt; clear_all(&rt, &desk, &mut chair, 1).0, 11);
     all.push_reserved(chair);
     let Ok(parts) = desk.into_parts(rt.alloc(), all) else {
         return Err(OutOfMemory);
     };
-    assert_eq!(rt; [parts.next.0, parts.base.0, parts.root], [11, 11, 11]);
+    assert_eq!(rt; [parts.next.0, parts.base.0, parts.root], [11, 10, 10]);
     assert_eq!(rt; parts.sides[0].port.count, 1);
     Ok(())
-}
-
-#[test]
-fn draws_twelve_after_the_other_drew_eleven(rt: HostRuntime) -> Result<(), OutOfMemory> {
-    let (desk, mut chairs) = opened(rt.alloc(), 1, 10, 2)?;
-    let mut all = Vec::with_capacity(rt.alloc(), 2)?;
-    let b = task_of_last(rt.alloc(), &desk, &mut chairs, 0, 3)?;
-    let a = task_of_last(rt.alloc(), &desk, &mut chairs, 0, 3)?;
-    let ((first, x), (second, y)) = cast_one_after_the_other(&rt, &desk, a, b);
-    assert_eq!(rt; x.as_slice(), [10, 11, 11].as_slice());
-    assert_eq!(rt; y.as_slice(), [11, 12, 12].as_slice());
-    all.push_reserved(first);
-    all.push_reserved(second);
-    let Ok(parts) = desk.into_parts(rt.alloc(), all) else {
-        return Err(OutOfMemory);
-    };
-    assert_eq!(rt; [parts.next.0, parts.base.0], [12, 10]);
-    assert_eq!(rt; parts.sides[0].port.count, 2);
-    Ok(())
-}
-
-#[test]
-fn draws_on_two_threads(rt: HostRuntime) -> Result<(), OutOfMemory> {
-    let (desk, mut chairs) = opened(rt.alloc(), 1, 10, 2)?;
-    let mut all = Vec::with_capacity(rt.alloc(), 2)?;
-    let b = task_of_last(rt.alloc(), &desk, &mut chairs, 0, 1)?;
-    let a = task_of_last(rt.alloc(), &desk, &mut chairs, 0, 1)?;
-    let ((first, x), (second, y)) = cast_by_two(&rt, &desk, a, b);
-    let drawn = (x.first().copied(), y.first().copied());
-    assert!(rt; drawn == (Some(11), Some(12)) || drawn == (Some(12), Some(11)));
-    all.push_reserved(first);
-    all.push_reserved(second);
-    let Ok(parts) = desk.into_parts(rt.alloc(), all) else {
-        return Err(OutOfMemory);
-    };
-    assert_eq!(rt; parts.next.0, 12);
-    Ok(())
-}
-
-// Tasks of the last two chairs, on the queues 0 and 1.
-fn two_tasks(
-    alloc: Global,
-    desk: &Desk<Counting<Word>>,
-    chairs: &mut Vec<Chair<Counting<Word>>>,
-) -> Result<(Task, Task), OutOfMemory>
-    requires some { (1 < vec_len chairs.old) × (vec_len chairs.old < 2 ^ 32) }
-    requires each { (i : ℕ) (ch : _)
-        → slice_get chairs.old.items i ≡ Some ch
-        → AtDesk desk.now ch × (view ch ≡ fresh (start_of desk.now) i) }
-    ensures len { OnOk result (vec_len chairs.new + 2 ≡ vec_len chairs.old) }
-    ensures each { OnOk result ((i : ℕ) (ch : _)
-        → slice_get chairs.new.items i ≡ Some ch
-        → AtDesk desk.now ch × (view ch ≡ fresh (start_of desk.now) i)) }
-    ensures a { IfOk result (λ t. AtDesk desk.now t.0.chair
-        × (view t.0.chair ≡ fresh (start_of desk.now) t.0.session)
-        × (t.0.queue ≡ 0)
-        × (t.0.numbers.items ≡ [])
-        × (vec_capacity t.0.numbers ≡ 100000)) }
-    ensures b { IfOk result (λ t. AtDesk desk.now t.1.chair
-        × (view t.1.chair ≡ fresh (start_of desk.now) t.1.session)
-        × (t.1.queue ≡ 1)
-        × (t.1.numbers.items ≡ [])
-        × (vec_capacity t.1.numbers ≡ 100000)) }
-{
-    let a = task_of_last(alloc, desk, chairs, 0, 100_000)?;
-    let b = task_of_last(alloc, desk, chairs, 1, 100_000)?;
-    Ok((a, b))
-}
-
-fn cast_tasks<R: Threads + Wait + Sync>(
-    rt: &R,
-    desk: &Desk<Counting<Word>>,
-    tasks: (Task, Task),
-) -> (Drawn, Drawn)
-    requires many { 4294967296 ≤ allotment (chairs_of desk.now) }
-    requires sides { length (start_of desk.now).sides ≡ 2 }
-    requires a { AtDesk desk.now tasks.0.chair
-        × (view tasks.0.chair ≡ fresh (start_of desk.now) tasks.0.session)
-        × (tasks.0.queue ≡ 0)
-        × (tasks.0.numbers.items ≡ [])
-        × (vec_capacity tasks.0.numbers ≡ 100000) }
-    requires b { AtDesk desk.now tasks.1.chair
-        × (view tasks.1.chair ≡ fresh (start_of desk.now) tasks.1.session)
-        × (tasks.1.queue ≡ 1)
-        × (tasks.1.numbers.items ≡ [])
-        × (vec_capacity tasks.1.numbers ≡ 100000) }
-    ensures a { AtDesk desk.now result.0.0 × ((view result.0.0).held ≡ []) }
-    ensures b { AtDesk desk.now result.1.0 × ((view result.1.0).held ≡ []) }
-{
-    let (a, b) = tasks;
-    cast_by_two(rt, desk, a, b)
 }
 
 // Marks each number of a row, counted from 1, and says whether none was marked before.
@@ -522,30 +313,38 @@ fn collect(
     let (mut chair, numbers) = drawn;
     let front = desk.front(&mut chair);
     chairs.push_reserved(chair);
-    mark(seen, numbers.as_slice()) && front.0 == 400_000
+    mark(seen, numbers.as_slice()) && front.0 == 200_000
+}
+
+// Two threads make 100,000 rounds each, on the queue 0 and on this one of the given number of queues.
+// Returns whether each number was drawn once, and the last one is the front of both.
+fn all_are_drawn<R: Threads + Wait + Sync>(
+    rt: &R,
+    alloc: Global,
+    sides: u32,
+    queue: u32,
+) -> Result<bool, OutOfMemory> {
+    if queue >= sides {
+        return Ok(false);
+    }
+    let (desk, mut chairs) = opened(alloc, sides, 0, 2)?;
+    let mut seen = vec![in alloc; false; 200_000]?;
+    let mut all = Vec::with_capacity(alloc, 2)?;
+    let b = task_of_last(alloc, &desk, &mut chairs, queue, 100_000)?;
+    let a = task_of_last(alloc, &desk, &mut chairs, 0, 100_000)?;
+    let (a, b) = cast_by_two(rt, &desk, a, b);
+    let first = collect(&desk, &mut all, seen.as_mut_slice(), a);
+    let second = collect(&desk, &mut all, seen.as_mut_slice(), b);
+    let Ok(parts) = desk.into_parts(alloc, all) else {
+        return Err(OutOfMemory);
+    };
+    Ok(first && second && seen.iter().all(|s| *s) && parts.next.0 == 200_000)
 }
 
 #[test]
-fn four_threads_end_with_the_last_number_as_front(rt: HostRuntime) -> Result<(), OutOfMemory> {
-    let (desk, mut chairs) = opened(rt.alloc(), 2, 0, 4)?;
-    let one = two_tasks(rt.alloc(), &desk, &mut chairs)?;
-    let two = two_tasks(rt.alloc(), &desk, &mut chairs)?;
-    let mut seen = vec![in rt.alloc(); false; 400_000]?;
-    let mut all = Vec::with_capacity(rt.alloc(), 4)?;
-    let ((a, b), (c, d)) = join(
-        &rt,
-        || cast_tasks(&rt, &desk, one),
-        || cast_tasks(&rt, &desk, two),
-    );
-    assert!(rt; collect(&desk, &mut all, seen.as_mut_slice(), a));
-    assert!(rt; collect(&desk, &mut all, seen.as_mut_slice(), b));
-    assert!(rt; collect(&desk, &mut all, seen.as_mut_slice(), c));
-    assert!(rt; collect(&desk, &mut all, seen.as_mut_slice(), d));
-    assert!(rt; seen.iter().all(|s| *s));
-    let Ok(parts) = desk.into_parts(rt.alloc(), all) else {
-        return Err(OutOfMemory);
-    };
-    assert_eq!(rt; parts.next.0, 400_000);
-    assert_eq!(rt; parts.sides[0].port.count, 200_000);
+fn two_threads_end_with_the_last_number_as_front(rt: HostRuntime) -> Result<(), OutOfMemory> {
+    for (sides, queue) in [(1, 0), (2, 1)] {
+        assert!(rt; all_are_drawn(&rt, rt.alloc(), sides, queue)?);
+    }
     Ok(())
 }

@@ -63,9 +63,9 @@ abbrev pub number_option : Option Text → Option (Option ℕ)
 number_option None = Some None
 number_option (Some text) = option_map Some (number_within number_end text)
 
--- a port's number and a command's, which counts from 1
+-- a port's number and a command's, which counts from 1: the number 0 names no command
 abbrev pub failing_by : (port command : Option ℕ) → Option FailingCommand
-failing_by (Some port) (Some command) = if nat_lt 0 command then Some (record { port = port; command = command }) else None
+failing_by (Some port) (Some command) = Some (record { port = port; command = command })
 failing_by _ _ = None
 
 -- the two numbers, with the first colon between
@@ -191,9 +191,9 @@ asked command.Version = version
 abbrev pub AreSmall : BlocksOptions → Type 0
 AreSmall o = IfSome o.cut (λ n. n < number_end) × IfSome o.pick (λ n. n < number_end) × IfSome o.again (λ n. n < number_end)
 
--- the numbers are below their limit, and the command's counts from 1
+-- both numbers are below their limit
 abbrev pub NamesCommand : FailingCommand → Type 0
-NamesCommand f = (f.port < number_end) × (1 ≤ f.command) × (f.command < number_end)
+NamesCommand f = (f.port < number_end) × (f.command < number_end)
 
 -- the same of the options of `run`
 abbrev pub AreSmallOfRun : RunFlags → Type 0

@@ -51,9 +51,6 @@ fn failing_command(word: &str) -> Option<FailingCommand>
     let (port, command) = word.split_once(':')?;
     let port = number_below(NUMBER_END, port)?;
     let command = number_below(NUMBER_END, command)?;
-    if command == 0 {
-        return None;
-    }
     Some(FailingCommand { port, command })
 }
 

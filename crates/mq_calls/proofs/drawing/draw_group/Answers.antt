@@ -5,11 +5,13 @@ use Rattle.mq_journal.specs.Numbers.{Draws, HoldsNumbered, IsReported, Seat}
 use Rattle.mq_pages.specs.Held.{Cells}
 use Rattle.mq_turns.specs.AtDesk.{start_of, view}
 use Rattle.mq_turns.specs.declared.rule.Report.TheVariants as report
+use Rattle.mq_calls.specs.Acts.{IsUnderWay}
 use Rattle.mq_calls.specs.Leaving.{cells_after}
 use Rattle.mq_calls.specs.Pages.{HoldsPages}
 use Rattle.mq_calls.specs.Runs.{files}
 use Rattle.mq_calls.proofs.LeavingAfterDraw.{drawn-held, entry-leaves, numbered-left}
 use Rattle.mq_calls.proofs.WantedFurther.{cells-below}
+use Rattle.mq_calls.proofs.ActsUnderWay.{under-way}
 use Rattle.mq_calls.proofs.DrawingSent.{cut-at, has-drawn}
 use Rattle.mq_calls.proofs.drawing.draw_group.Goals as goal
 
@@ -61,7 +63,10 @@ returns-in-Ok-clause-sent g c =
     let number = c.in-Ok.ensures.answer in
     let told = subst (λ (m : ℕ). IsReported st fs file_group o m (report.Sent n.number) x y) same c.in-Ok.ensures.sent in
     let here = subst (λ (m : ℕ). IsReported st fs file_group o q (report.Sent m) x y) (sym number) told in
-    has-drawn st fs o q c.in-Ok.tx e (report.Sent c.in-Ok.tx) cells c.args.side s n v w x y c.requires.holds draws (sym number) c.give_drawn_pages.ensures.gave here
+    let left = numbered-left st fs file_group o c.args.side.pmr.queue s n w cells (cells-below (files st fs) o cells v c.requires.holds.pages) c.number-numbered.ensures.draws.side in
+    let held = subst (λ (z : Seat _ _ _). HoldsNumbered st fs file_group o c.args.side.pmr.queue s n z) (sym c.give_drawn_pages.ensures.gave) left in
+    let mine = subst (λ (m : ℕ). HoldsNumbered st fs file_group o m s n x) c.requires.queue held in
+    has-drawn st fs o q c.in-Ok.tx e (report.Sent c.in-Ok.tx) cells c.args.side s n v w x y c.requires.holds draws (sym number) c.give_drawn_pages.ensures.gave here (subst (λ (m : ℕ). IsUnderWay q m x) (sym number) (under-way st fs o q s n x told.known c.give_drawn_pages.ensures.at.1 mine told.sees))
 
 pub returns-in-Err-clause-cut : goal.returns-in-Err-clause-cut
 returns-in-Err-clause-cut g c =
@@ -80,7 +85,10 @@ returns-in-Err-clause-cut g c =
     let draws = subst (λ (m : ℕ). Draws st fs file_group o m e v w s n) c.requires.queue c.number-numbered.ensures.draws in
     let same : s.pmr.queue ≡ q = ap (λ p. p.queue) c.number-numbered.ensures.pmr ∙ c.requires.queue in
     let number = sym c.number-at.ensures in
-    let told = subst (λ (m : ℕ). IsReported st fs file_group o m report.Off x y) same c.in-Err.ensures.charged in (
-      has-drawn st fs o q c.number-at.result e report.Off cells c.args.side s n v w x y c.requires.holds draws number c.give_drawn_pages.ensures.gave told,
+    let told = subst (λ (m : ℕ). IsReported st fs file_group o m report.Off x y) same c.in-Err.ensures.charged in
+    let left = numbered-left st fs file_group o c.args.side.pmr.queue s n w cells (cells-below (files st fs) o cells v c.requires.holds.pages) c.number-numbered.ensures.draws.side in
+    let held = subst (λ (z : Seat _ _ _). HoldsNumbered st fs file_group o c.args.side.pmr.queue s n z) (sym c.give_drawn_pages.ensures.gave) left in
+    let mine = subst (λ (m : ℕ). HoldsNumbered st fs file_group o m s n x) c.requires.queue held in (
+      has-drawn st fs o q c.number-at.result e report.Off cells c.args.side s n v w x y c.requires.holds draws number c.give_drawn_pages.ensures.gave told (subst (λ (m : ℕ). IsUnderWay q m x) number (under-way st fs o q s n x told.known c.give_drawn_pages.ensures.at.1 mine told.sees)),
       cut-at st fs o q c.number-at.result e s n v w draws number c.in-Err.ensures.cut,
     )

@@ -15,6 +15,7 @@ use Rattle.mq_calls.specs.Preparing.{IsEntryReady}
 use Rattle.mq_calls.proofs.ActsCauses.{kept-refused}
 use Rattle.mq_calls.proofs.CommittingDrawable.{called-on, fits-still, is-prepared, lacks-room, plan-of, writes-rise}
 use Rattle.mq_calls.proofs.CommittingInHand.{commit-prepared, commit-read, commit-side}
+use Rattle.mq_calls.proofs.PreparingRoom.{left-alone, made-ready, only-drained}
 use Rattle.mq_calls.proofs.preparing.make_ready.Goals as goal
 
 pub returns-in-Some-clause-lacks : goal.returns-in-Some-clause-lacks
@@ -121,3 +122,19 @@ returns-in_err-make_room-clause-lacks g c =
     let lacks = lacks-room st fs o s.pmr.geometry (call_of c.args.asked.now) c.args.done.now plan reads cells old v w opening c.requires.geometry c.make_room.ensures.keeps.geometry holds c.requires.done c.requires.few c.requires.changes c.read_words-front.ensures.read here obstacle room in
     let p = err_from_is_err_and c.from_residual-in_err-make_room.result c.from_residual-in_err-make_room.ensures.1 in
     rw (p.1, p.2) lacks
+
+-- ---- what was done to the side
+
+pub returns-in-Some-clause-drains : goal.returns-in-Some-clause-drains
+returns-in-Some-clause-drains g c = left-alone g.P.Port.state g.P.Port.faults c.args.into.now (view c.args.chair.now) c.args.side.now
+
+pub returns-in_err-place-clause-drains : goal.returns-in_err-place-clause-drains
+returns-in_err-place-clause-drains g c = left-alone g.P.Port.state g.P.Port.faults c.place.new.into (view c.read_words-front.new.chair) c.args.side.now
+
+pub returns-in_err-make_room-clause-drains : goal.returns-in_err-make_room-clause-drains
+returns-in_err-make_room-clause-drains g c = only-drained g.P.Port.state g.P.Port.faults c.read_words-front.result.base c.place.new.into (view c.read_words-front.new.chair) c.args.side.now c.make_room.new.side c.read_words-front.ensures.read.base c.make_room.ensures.drains
+
+pub returns-clause-drains : goal.returns-clause-drains
+returns-clause-drains g c =
+    let p = c.prepare.ensures in
+    made-ready g.P.Port.state g.P.Port.faults c.read_words-front.result.base c.place.new.into (view c.read_words-front.new.chair) c.args.side.now c.make_room.new.side c.prepare.new.side c.read_words-front.ensures.read.base c.make_room.ensures.drains (record { pmr = p.port; stored = p.keeps.stored; done = p.done; kept = p.kept })

@@ -22,7 +22,7 @@ pub returns-in-Ok-clause-raised : goal.returns-in-Ok-clause-raised
 returns-in-Ok-clause-raised g c =
     let t = c.in-Root.ensures.took in
     let r = c.raise.ensures.raised in
-    stored_base g.P.Port.state g.P.Port.faults g.G.Groups.group (start_of c.args.desk.now) (view c.args.chair.now) (view c.take.new.chair) c.requires.at.1 c.requires.idle t.0 t.1 t.2 c.in-Root.root c.store.new.root t.3 c.args.base c.in-Ok.ensures.stands c.requires.base c.in-Ok.ensures.cause c.base-raised.result c.base-raised.ensures r.0 (view c.raise.new.chair) r.1 r.2 (view c.give_back.new.chair) c.give_back.ensures.gave
+    stored_base g.P.Port.state g.P.Port.faults g.G.Groups.group (start_of c.args.desk.now) (view c.args.chair.now) (view c.take.new.chair) c.requires.at.1 c.requires.idle t.0 t.1 t.2 c.in-Root.root c.store.new.root t.3 c.args.base c.in-Ok.ensures.stands c.requires.base c.in-Ok.ensures.cause c.base-raised.result c.base-raised.ensures r.0 (view c.raise.new.chair) r.1 r.2 (view c.give_back.new.chair) c.give_back.ensures.gave c.in-Ok.ensures.raised
 
 pub returns-in-Err-clause-refused : goal.returns-in-Err-clause-refused
 returns-in-Err-clause-refused g c =

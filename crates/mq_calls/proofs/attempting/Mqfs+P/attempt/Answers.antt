@@ -1,7 +1,7 @@
 use Rattle.std.proofs.Common.{sym, subst}
 use Rattle.std.proofs.lemmas.Result.{IfErr-weaker, IfOk-weaker}
 use Rattle.mq_turns.specs.AtDesk.{view}
-use Rattle.mq_calls.specs.Acts.{Acts, memory}
+use Rattle.mq_calls.specs.Acts.{Acts, WaitsForNone, memory}
 use Rattle.mq_calls.specs.Calling.{call_of}
 use Rattle.mq_calls.specs.Committing.{IsMissed}
 use Rattle.mq_calls.specs.declared.answers.Answer.{Answer}
@@ -9,6 +9,7 @@ use Rattle.mq_calls.specs.declared.committing.Miss.{Miss}
 use Rattle.mq_calls.proofs.Sessions.{keeps-all}
 use Rattle.mq_calls.proofs.ActsComposing.{acts-same, left-along, left-same, missed-same}
 use Rattle.mq_calls.proofs.ActsGoingOn.{goes-same, goes-then}
+use Rattle.mq_calls.proofs.ActsUnderWay.{waits-same}
 use Rattle.mq_calls.proofs.attempting.Mqfs+P.attempt.Goals as goal
 
 pub returns-in-Ok-clause-rests : goal.returns-in-Ok-clause-rests
@@ -28,6 +29,14 @@ returns-in-Ok-clause-acts g c =
     let m = view c.run_held.new.chair in
     let w = view c.finish.new.session.chair in
     IfOk-weaker c.finish.result (λ (a : Answer). Acts geometry call a.at a.drew a.replies.items m w) (λ (a : Answer). Acts geometry call a.at a.drew a.replies.items v w) (λ a acts. acts-same geometry call a.at a.drew a.replies.items v m w c.in-Ok.ensures.same acts) c.finish.ensures.acts
+
+pub returns-in-Ok-clause-waits : goal.returns-in-Ok-clause-waits
+returns-in-Ok-clause-waits g c =
+    let q = c.args.asked.now.queue in
+    let v = view c.args.session.now.chair in
+    let m = view c.run_held.new.chair in
+    let w = view c.finish.new.session.chair in
+    IfOk-weaker c.finish.result (λ (a : Answer). WaitsForNone q a.at a.drew m w) (λ (a : Answer). WaitsForNone q a.at a.drew v w) (λ a waits. waits-same q a.at a.drew v m w c.in-Ok.ensures.same waits) c.finish.ensures.waits
 
 pub returns-in-Ok-clause-missed : goal.returns-in-Ok-clause-missed
 returns-in-Ok-clause-missed g c =

@@ -7,6 +7,7 @@ use Rattle.mq_calls.specs.Committing.{IsMissed}
 use Rattle.mq_calls.specs.declared.committing.Miss.{Miss}
 use Rattle.mq_calls.proofs.Sessions.{reads-only}
 use Rattle.mq_calls.proofs.ActsComposing.{large-of, written-few}
+use Rattle.mq_calls.proofs.ActsUnderWay.{waits-read}
 use Rattle.mq_calls.proofs.WantedFurther.{same-at-once}
 use Rattle.mq_calls.proofs.attempting.Mqfs+P.finish.Goals as goal
 
@@ -18,6 +19,9 @@ returns-then-is_empty-2-clause-acts g c =
     let writes = nil_from_length c.args.done.writes.items no_writes in
     let frees = nil_from_length c.args.done.frees.items no_frees in
     reads-only (call_of c.args.asked.now) c.args.done c.in_ok-at.at v v (view c.read_undrawn.new.session.chair) (same-at-once v) c.in_ok-at.ensures.read writes frees
+
+pub returns-then-is_empty-2-clause-waits : goal.returns-then-is_empty-2-clause-waits
+returns-then-is_empty-2-clause-waits g c = waits-read c.args.asked.now.queue c.in_ok-at.at c.in_ok-at.at (call_of c.args.asked.now) c.args.done (view c.args.session.now.chair) (view c.read_undrawn.new.session.chair) c.in_ok-at.ensures.read
 
 pub overflow_cast-count : goal.overflow_cast-count
 overflow_cast-count g c =

@@ -1,14 +1,14 @@
 use Rattle.std.proofs.Common.{sym, subst}
 use Rattle.std.proofs.lemmas.Result.{IfErr-weaker, IfOk-weaker}
 use Rattle.mq_turns.specs.AtDesk.{view}
-use Rattle.mq_calls.specs.Acts.{HasActed, IsRefused, at_once, memory, turned_down}
+use Rattle.mq_calls.specs.Acts.{HasActed, HasNotWaited, IsRefused, at_once, memory, turned_down}
 use Rattle.mq_calls.specs.Calling.{call_by}
 use Rattle.mq_calls.specs.declared.answers.Answer.{Answer}
 use Rattle.mq_calls.specs.declared.answers.Refusal.{Refusal}
 use Rattle.mq_calls.proofs.Sessions.{keeps-at-once}
 use Rattle.mq_calls.proofs.ActsComposing.{called-acts, called-turned}
 use Rattle.mq_calls.proofs.ActsGoingOn.{goes-at-once, goes-then}
-use Rattle.mq_calls.proofs.ActsMakingRoom.{acted-at-once, full-of, ready-attempted, ready-full, refused-at-once, turned-of}
+use Rattle.mq_calls.proofs.ActsMakingRoom.{acted-at-once, full-of, ready-attempted, ready-full, refused-at-once, turned-of, waits-at-once}
 use Rattle.mq_calls.proofs.calls.Mqfs+P.act.Goals as goal
 
 pub returns-then-session-ge-CALL_LIMIT-clause-goes : goal.returns-then-session-ge-CALL_LIMIT-clause-goes
@@ -36,6 +36,12 @@ returns-in-Ok-clause-acts g c =
     let s = c.args.session.now in
     let r = c.in-Ok.answer in
     acted-at-once g.P.Port.state g.P.Port.faults c.args.self.now.geometry (call_by s.queue s.calls c.args.durable c.args.requests.now) r.at r.drew r.replies.items (view s.chair) (view c.attempt.new.session.chair) c.in-Ok.ensures.acts
+
+pub returns-in-Ok-clause-waits : goal.returns-in-Ok-clause-waits
+returns-in-Ok-clause-waits g c =
+    let s = c.args.session.now in
+    let r = c.in-Ok.answer in
+    waits-at-once g.P.Port.state g.P.Port.faults c.args.self.now.geometry (call_by s.queue s.calls c.args.durable c.args.requests.now) r.at r.drew (view s.chair) (view c.attempt.new.session.chair) c.in-Ok.ensures.waits
 
 -- ---- it was turned down
 
@@ -91,6 +97,19 @@ returns-in-Err-AreaFull-clause-acts g c =
     let call = call_by s.queue s.calls c.args.durable c.args.requests.now in
     let full = full-of st fs geometry call e.field-0 v (view c.attempt.new.session.chair) e.field-0-is e.ensures.missed in
     IfOk-weaker c.act_again.result _ (λ (a : Answer). HasActed st fs geometry call a.at a.drew a.replies.items v w) (λ a acts. acts v full) c.act_again.ensures.acts
+
+pub returns-in-Err-AreaFull-clause-waits : goal.returns-in-Err-AreaFull-clause-waits
+returns-in-Err-AreaFull-clause-waits g c =
+    let st = g.P.Port.state in
+    let fs = g.P.Port.faults in
+    let s = c.args.session.now in
+    let v = view s.chair in
+    let w = view c.act_again.new.session.chair in
+    let e = c.in-Err-AreaFull in
+    let geometry = c.args.self.now.geometry in
+    let call = call_by s.queue s.calls c.args.durable c.args.requests.now in
+    let full = full-of st fs geometry call e.field-0 v (view c.attempt.new.session.chair) e.field-0-is e.ensures.missed in
+    IfOk-weaker c.act_again.result _ (λ (a : Answer). HasNotWaited st fs geometry call a.at a.drew v w) (λ a waits. waits v full) c.act_again.ensures.waits
 
 pub returns-in-Err-AreaFull-clause-refused : goal.returns-in-Err-AreaFull-clause-refused
 returns-in-Err-AreaFull-clause-refused g c =

@@ -7,7 +7,7 @@ use Rattle.mq_calls.specs.declared.answers.Refusal.{Refusal}
 use Rattle.mq_calls.proofs.Sessions.{ready-more}
 use Rattle.mq_calls.proofs.ActsComposing.{called-acts, called-rests, called-turned}
 use Rattle.mq_calls.proofs.ActsGoingOn.{goes-then}
-use Rattle.mq_calls.proofs.ActsMakingRoom.{acted-again, full-again, full-of, ready-attempted, ready-between, refused-again, turned-of}
+use Rattle.mq_calls.proofs.ActsMakingRoom.{acted-again, full-again, full-of, ready-attempted, ready-between, refused-again, turned-of, waits-again}
 use Rattle.mq_calls.proofs.calls.Mqfs+P.act_again.Goals as goal
 
 pub checkpoint-requires-clause-ready : goal.checkpoint-requires-clause-ready
@@ -48,6 +48,11 @@ pub returns-in-Ok-attempt-clause-acts : goal.returns-in-Ok-attempt-clause-acts
 returns-in-Ok-attempt-clause-acts g c = λ first full.
     let r = c.in-Ok-attempt.answer in
     acted-again g.P.Port.state g.P.Port.faults c.args.self.now.geometry (call_of c.args.asked.now) r.at r.drew r.replies.items c.in-Ok.field-0 first (view c.args.session.now.chair) (view c.checkpoint.new.session.chair) (view c.attempt.new.session.chair) full c.in-Ok.ensures.raised c.in-Ok-attempt.ensures.acts
+
+pub returns-in-Ok-attempt-clause-waits : goal.returns-in-Ok-attempt-clause-waits
+returns-in-Ok-attempt-clause-waits g c = λ first full.
+    let r = c.in-Ok-attempt.answer in
+    waits-again g.P.Port.state g.P.Port.faults c.args.self.now.geometry (call_of c.args.asked.now) r.at r.drew c.in-Ok.field-0 first (view c.args.session.now.chair) (view c.checkpoint.new.session.chair) (view c.attempt.new.session.chair) full c.in-Ok.ensures.raised c.in-Ok-attempt.ensures.waits
 
 -- ---- it was turned down
 

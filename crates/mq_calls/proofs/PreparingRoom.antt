@@ -1,0 +1,27 @@
+-- The ring of a side has room, or is drained for it.
+use Rattle.std.proofs.Common.{ℕ, ◌≤◌, List, refl, inl, arith}
+use Rattle.mq_blocks.specs.Drive.{PortState}
+use Rattle.mq_drive.specs.Steps.{PortFault}
+use Rattle.mq_drive.specs.declared.port.Port.{Ghosts}
+use Rattle.mq_files.specs.declared.entry.FileEntry.{FileEntry}
+use Rattle.mq_journal.specs.Laws.{HaveSameParts}
+use Rattle.mq_journal.specs.Numbers.{Seat}
+use Rattle.mq_revoke.specs.Placed.{Placed}
+use Rattle.mq_side.specs.declared.side.QueueSide.{QueueSide}
+use Rattle.mq_calls.specs.Preparing.{IsDrainedForRoom, IsMadeReady}
+
+module _ {P : Type 0} {G : Ghosts P} where
+  same-parts : (s : QueueSide P FileEntry G) → HaveSameParts s s
+  same-parts s = record { pmr = refl; stored = refl; done = refl; kept = refl }
+
+module _ {P : Type 0} {G : Ghosts P} (state : P → PortState) (faults : P → List PortFault) where
+  -- nothing was done to it
+  pub left-alone : (plan : Placed) (v : Seat P FileEntry G) (s : QueueSide P FileEntry G) → IsMadeReady state faults plan v s s
+  left-alone plan v s = record { base = 0; read = omega arith; between = s; drained = inl refl; same = same-parts s }
+
+  -- and no commit was prepared on it
+  pub only-drained : (base : ℕ) (plan : Placed) (v : Seat P FileEntry G) (s u : QueueSide P FileEntry G) → base ≤ v.reading.base → IsDrainedForRoom state faults base plan s u → IsMadeReady state faults plan v s u
+  only-drained base plan v s u read drained = record { base = base; read = read; between = u; drained = drained; same = same-parts u }
+
+  pub made-ready : (base : ℕ) (plan : Placed) (v : Seat P FileEntry G) (s u w : QueueSide P FileEntry G) → base ≤ v.reading.base → IsDrainedForRoom state faults base plan s u → HaveSameParts u w → IsMadeReady state faults plan v s w
+  made-ready base plan v s u w read drained same = record { base = base; read = read; between = u; drained = drained; same = same }

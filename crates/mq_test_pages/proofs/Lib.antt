@@ -1,4 +1,0 @@
-pub mod EmptyBlocks
-pub mod LaidMaps
-pub mod LiftedCells
-pub mod LiftedNoting

@@ -1,4 +1,0 @@
-pub mod DriveHomes
-pub mod PlainLooking
-pub mod PlainRows
-pub mod Start

@@ -1,4 +1,0 @@
-pub mod HistoryValues
-pub mod Kept
-pub mod ScriptsRising
-pub mod StartOpened

@@ -1,7 +1,0 @@
-use Rattle.std.proofs.Common.{◌≡◌, take}
-use Rattle.mq_ledger.specs.History.{blocks_of}
-use Rattle.mq_test_replay.proofs.entries.blocks_in.Given as goal
-
--- the blocks so far
-abbrev pub invariant-loop-write : goal.invariant-loop-write
-invariant-loop-write l = l.blocks.items ≡ blocks_of (take l.write-index l.writes)

@@ -1,4 +1,0 @@
-pub mod FreeRanges
-pub mod PlainLists
-pub mod RequestsBelow
-pub mod RequestsRenaming

@@ -1,4 +1,0 @@
-pub mod Bodies
-pub mod Plain
-pub mod Targets
-pub mod Verdicts
