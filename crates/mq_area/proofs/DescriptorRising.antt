@@ -3,6 +3,7 @@ use Rattle.std.proofs.Common.{◌≡◌, ◌≢◌, ℕ, zero, suc, ◌+◌, ◌
 use Rattle.std.proofs.lemmas.Bool.{cases_lt, cases_eq}
 use Rattle.std.proofs.lemmas.List.{take_more, take_all, get_or_append_left, get_or-append-add}
 use Rattle.mq_blocks.specs.Descriptor.{AreRising, AreApart, IsNoneOf}
+use Rattle.mq_blocks.proofs.DescriptorRising.{rising-order}
 use Rattle.mq_area.specs.Reading.{StopsAt, GoodRevoked, RefusesList}
 
 -- the least number that may follow a rising list that began at `low`
@@ -38,17 +39,6 @@ pub none_of-at : (x : ℕ) (ys : List ℕ) (k : ℕ) → IsNoneOf x ys → k < l
 none_of-at x [] k n l = absurd (omega arith)
 none_of-at x (y ∷ ys) zero n l = λ e. n.0 (sym e)
 none_of-at x (y ∷ ys) (suc k) n l = none_of-at x ys k n.1 (omega arith)
-
-pub rising-low : (low high : ℕ) (xs : List ℕ) (k : ℕ) → AreRising low high xs → k < length xs → low ≤ get_or xs k 0
-rising-low low high [] k r l = absurd (omega arith)
-rising-low low high (x ∷ xs) zero r l = r.0
-rising-low low high (x ∷ xs) (suc k) r l = omega (arith, rising-low (x + 1) high xs k r.2 (omega arith))
-
-pub rising-order : (low high : ℕ) (xs : List ℕ) (k m : ℕ) → AreRising low high xs → k < m → m < length xs → get_or xs k 0 < get_or xs m 0
-rising-order low high [] k m r h l = absurd (omega arith)
-rising-order low high (x ∷ xs) k zero r h l = absurd (omega arith)
-rising-order low high (x ∷ xs) zero (suc m) r h l = omega (arith, rising-low (x + 1) high xs m r.2 (omega arith))
-rising-order low high (x ∷ xs) (suc k) (suc m) r h l = rising-order (x + 1) high xs k m r.2 (omega arith) (omega arith)
 
 -- one more entry of a list
 pub rising-step : (high : ℕ) (xs : List ℕ) (i x : ℕ) → i < length xs → x ≡ get_or xs i 0 → AreRising 0 high (take i xs) → next_above 0 (take i xs) ≤ x → x < high → AreRising 0 high (take (i + 1) xs)

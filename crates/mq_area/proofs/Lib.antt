@@ -3,3 +3,4 @@ pub mod DescriptorWritten
 pub mod ReadingDescriptors
 pub mod ReadingExact
 pub mod ReadingSound
+pub mod JournalForm

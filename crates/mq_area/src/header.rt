@@ -1,18 +1,32 @@
 // The fields of a descriptor before its lists.
 ghost use Rattle.std.specs.Prelude.{◌≡◌, ◌≤◌, ◌<◌, ◌+◌, ◌*◌, ℕ, length, slice_index, IsTrue, ◌↔◌, MatchResult};
-ghost use Rattle.mq_area.specs.Reading.{header_of, GoodCounts, RefusesHeader, IsPlaced, Follows};
-ghost use Rattle.mq_blocks.specs.Descriptor.{list_limit};
+ghost use Rattle.mq_area.specs.Reading.{header_of, GoodCounts, RefusesHeader, IsPlaced, Follows, AreFew, further_of};
+ghost use Rattle.mq_blocks.specs.Descriptor.{most_listed};
 
 use crate::descriptor::{Expect, PlaceIs};
 use crate::refusal::DescriptorRefusal;
-use mq_blocks::LIST_LIMIT;
 use mq_blocks::bytes::{u32_at, u64_at};
+use mq_blocks::{DESCRIPTOR_VERSION, ENTRIES_IN_ONE, further_blocks};
 
 /// The bytes before the two lists.
 pub const HEADER: usize = 56;
 
-/// "MQFSDSC1", little endian.
-const MAGIC: u64 = 0x3143_5344_5346_514d;
+/// The entries of the lists that stand in a descriptor's last block.
+pub const ENTRIES: usize = ENTRIES_IN_ONE as usize;
+
+/// What marks the descriptors of one kind of journal: their first eight bytes, little endian, and the
+/// version in which they are written.
+#[derive(Clone, Copy)]
+pub struct Stamp {
+    pub magic: u64,
+    pub version: u32,
+}
+
+/// That of the journal's descriptors, "MQFSDSC1".
+pub const JOURNAL: Stamp = Stamp {
+    magic: 0x3143_5344_5346_514d,
+    version: DESCRIPTOR_VERSION,
+};
 
 /// The fields before the lists, as they stand in a block.
 #[derive(Clone, Copy)]
@@ -49,14 +63,21 @@ pub fn read_header(block: &[u8]) -> Header
 }
 
 /// Makes the tests that need the header alone, and names the first that fails.
-pub fn check_header(h: &Header, area: u32, at: &Expect) -> Result<(), DescriptorRefusal>
+pub fn check_header(
+    h: &Header,
+    stamp: Stamp,
+    area: u32,
+    limit: u32,
+    at: &Expect,
+) -> Result<(), DescriptorRefusal>
     requires { 0 < area }
-    ensures { MatchResult result (λ _. GoodCounts area at.now h.now) (RefusesHeader area at.now h.now) }
+    ensures { MatchResult result (λ _. GoodCounts stamp area limit at.now h.now)
+        (RefusesHeader stamp area limit at.now h.now) }
 {
-    if h.magic != MAGIC {
+    if h.magic != stamp.magic {
         return Err(DescriptorRefusal::Magic { found: h.magic });
     }
-    if h.version != 1 {
+    if h.version != 1 && h.version != stamp.version {
         return Err(DescriptorRefusal::Version { found: h.version });
     }
     if h.queue != at.queue.0 {
@@ -74,7 +95,7 @@ pub fn check_header(h: &Header, area: u32, at: &Expect) -> Result<(), Descriptor
             number: h.prev_number,
         });
     }
-    if !are_few(h) {
+    if !are_few(h, limit) {
         return Err(DescriptorRefusal::Counts {
             logged: h.logged,
             revoked: h.revoked,
@@ -107,13 +128,31 @@ fn follows(h: &Header) -> bool
     if h.prev_number == 0 {
         return h.prev_place == 0;
     }
-    h.prev_place < h.place && u64::from(h.logged) < h.place - h.prev_place
+    h.prev_place < h.place && before_last(h) < h.place - h.prev_place
 }
 
-/// Whether the lists are short enough, and the copies have places before the descriptor.
-fn are_few(h: &Header) -> bool
-    ensures { IsTrue result ↔ ((h.now.logged + h.now.revoked ≤ list_limit) × (h.now.logged ≤ h.now.place)) }
+/// Whether the lists are short enough, and the copies and the further block have places before the
+/// last block.
+fn are_few(h: &Header, limit: u32) -> bool
+    ensures { IsTrue result ↔ AreFew limit h.now }
 {
-    u64::from(h.logged) + u64::from(h.revoked) <= u64::from(LIST_LIMIT)
-        && u64::from(h.logged) <= h.place
+    u64::from(h.logged) + u64::from(h.revoked) <= most_listed(limit, h.version)
+        && before_last(h) <= h.place
+}
+
+/// How many blocks a descriptor of this version lists at most.
+fn most_listed(limit: u32, version: u32) -> u64
+    ensures { result ≡ most_listed limit version }
+{
+    if version == 1 {
+        return 1000;
+    }
+    u64::from(limit)
+}
+
+/// The blocks of the transaction before the descriptor's last block.
+fn before_last(h: &Header) -> u64
+    ensures { result ≡ h.now.logged + further_of h.now }
+{
+    u64::from(h.logged) + further_blocks(u64::from(h.logged) + u64::from(h.revoked))
 }

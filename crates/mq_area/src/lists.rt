@@ -1,8 +1,10 @@
 // The tests of a descriptor's lists and of the bytes after them.
-ghost use Rattle.std.specs.Prelude.{◌≡◌, ◌≤◌, ◌<◌, ◌+◌, ℕ, length, slice_index, IsTrue, ◌↔◌, MatchOption, MatchResult};
-ghost use Rattle.mq_blocks.specs.Descriptor.{AreRising, list_limit};
-ghost use Rattle.mq_area.specs.Reading.{StopsAt, GoodRevoked, IsZero, IsListRefusal, IsRestRefusal};
+ghost use Rattle.std.specs.Prelude.{◌≡◌, ◌≤◌, ◌<◌, ◌+◌, ◌*◌, ◌++◌, ℕ, length, slice_index, IsTrue, ◌↔◌, MatchOption, MatchResult};
+ghost use Rattle.mq_blocks.specs.Limits.{list_limit};
+ghost use Rattle.mq_blocks.specs.Descriptor.{AreRising, further_for};
+ghost use Rattle.mq_area.specs.Reading.{StopsAt, GoodRevoked, IsZero, IsListRefusal, IsRestRefusal, RefusesRest};
 
+use crate::header::{ENTRIES, HEADER};
 use crate::refusal::DescriptorRefusal;
 use mq_blocks::BlockNo;
 
@@ -97,16 +99,44 @@ pub fn check_lists(
     Ok(())
 }
 
-/// Tests that all bytes from `from` on are zero, and names the first that is not.
-pub fn check_rest(block: &[u8], from: usize) -> Result<(), DescriptorRefusal>
+/// The first byte of a block from `from` on that is not zero.
+fn first_other(block: &[u8], from: usize) -> Option<usize>
     requires whole { length block.now ≡ 4096 }
     requires inside { from ≤ 4096 }
-    ensures { MatchResult result (λ _. IsZero from 4096 block.now) (IsRestRefusal from block.now) }
+    ensures { MatchOption result (IsZero from 4096 block.now) (RefusesRest from 4096 block.now) }
 {
     for k in from..block.len() {
         if block[k] != 0 {
-            return Err(DescriptorRefusal::Rest { offset: k as u32 });
+            return Some(k);
         }
     }
-    Ok(())
+    None
 }
+
+/// Tests that all bytes after so many entries are zero, and names the first that is not.
+pub fn check_rest(block: &[u8], before: &[u8], count: usize) -> Result<(), DescriptorRefusal>
+    requires whole { length block.now ≡ 4096 }
+    requires further { length before.now ≡ 4096 }
+    requires inside { count < 2034 }
+    ensures { MatchResult result
+        (λ _. IsZero (56 + 4 * count) (4096 * (further_for count + 1)) (block.now ++ before.now))
+        (IsRestRefusal (56 + 4 * count) (4096 * (further_for count + 1)) (block.now ++ before.now)) }
+{
+    if count <= ENTRIES {
+        return match first_other(block, HEADER + 4 * count) {
+            Some(k) => Err(DescriptorRefusal::Rest { offset: k as u32 }),
+            None => Ok(()),
+        };
+    }
+    match first_other(before, 4 * (count - ENTRIES)) {
+        Some(k) => Err(DescriptorRefusal::Rest {
+            offset: (block.len() + k) as u32,
+        }),
+        None => Ok(()),
+    }
+}
+
+/// Each item is a byte.
+pub fn are_bytes(bytes: &[u8])
+    ensures { (k : ℕ) → slice_index bytes.now k < 256 }
+{}

@@ -5,31 +5,33 @@ ghost use Rattle.mq_area.specs.Reading.{Accepts, Refuses};
 
 use crate::bytes::read_list;
 use crate::descriptor::{Descriptor, Expect};
-use crate::header::{HEADER, check_header, read_header};
-use crate::lists::{check_lists, check_rest};
+use crate::header::{JOURNAL, check_header, read_header};
+use crate::lists::{are_bytes, check_lists, check_rest};
 use crate::refusal::DescriptorRefusal;
 use mq_blocks::{Block, Geometry};
 use std::alloc::Global;
 
-/// The descriptor that a block holds, where it is the one that is expected. Where it is not, the
-/// refusal names the first test that failed. Only the two lists take memory.
+/// The descriptor whose last block this is, where it is the one that is expected. Where it is not, the
+/// refusal names the first test that failed. The block before it is looked at only where the lists don't
+/// fit into the last one. Only the two lists take memory.
 pub fn read_descriptor(
     alloc: Global,
     geometry: Geometry,
     at: &Expect,
     block: &Block,
+    before: &Block,
 ) -> Result<Descriptor, DescriptorRefusal>
-    ensures sound { IfOk result (Accepts geometry at.now block.now) }
-    ensures refused { IfErr result (Refuses geometry at.now block.now) }
+    ensures sound { IfOk result (Accepts geometry at.now block.now before.now) }
+    ensures refused { IfErr result (Refuses geometry at.now block.now before.now) }
     ensures complete { (d : Text)
-        → Accepts geometry at.now block.now d
+        → Accepts geometry at.now block.now before.now d
         → MatchResult result (λ r. r ≡ d) (λ e. e ≡ DescriptorRefusal.OutOfMemory) }
     ensures exact { (e : DescriptorRefusal)
         → e ≢ DescriptorRefusal.OutOfMemory
-        → Refuses geometry at.now block.now e
+        → Refuses geometry at.now block.now before.now e
         → IsErrOf result e ⊎ IsErrOf result DescriptorRefusal.OutOfMemory }
 {
-    read_bytes(alloc, geometry, at, block.bytes())
+    read_bytes(alloc, geometry, at, block.bytes(), before.bytes())
 }
 
 fn read_bytes(
@@ -37,19 +39,28 @@ fn read_bytes(
     geometry: Geometry,
     at: &Expect,
     block: &[u8],
+    before: &[u8],
 ) -> Result<Descriptor, DescriptorRefusal>
-    requires { length block.now ≡ 4096 }
-    ensures sound { IfOk result (Accepts geometry at.now block.now) }
-    ensures refused { IfErr result (Refuses geometry at.now block.now) }
+    requires whole { length block.now ≡ 4096 }
+    requires further { length before.now ≡ 4096 }
+    ensures sound { IfOk result (Accepts geometry at.now block.now before.now) }
+    ensures refused { IfErr result (Refuses geometry at.now block.now before.now) }
 {
     let header = read_header(block);
-    check_header(&header, geometry.area(), at)?;
-    let second = HEADER + 4 * header.logged as usize;
-    let end = second + 4 * header.revoked as usize;
-    let logged = read_list(alloc, block, HEADER, header.logged as usize)?;
-    let revoked = read_list(alloc, block, second, header.revoked as usize)?;
+    check_header(
+        &header,
+        JOURNAL,
+        geometry.area(),
+        geometry.write_limit(),
+        at,
+    )?;
+    are_bytes(before);
+    let first = header.logged as usize;
+    let count = header.revoked as usize;
+    let logged = read_list(alloc, block, before, 0, first)?;
+    let revoked = read_list(alloc, block, before, first, count)?;
     check_lists(geometry.homes(), &logged, &revoked)?;
-    check_rest(block, end)?;
+    check_rest(block, before, first + count)?;
     Ok(Descriptor {
         queue: header.queue,
         number: header.number,

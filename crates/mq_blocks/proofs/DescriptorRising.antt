@@ -1,5 +1,5 @@
 -- Rising lists between other bounds, and one number longer.
-use Rattle.std.proofs.Common.{ℕ, ◌+◌, ◌-◌, ◌≤◌, List, [], ◌∷◌, ◌++◌, length, arith}
+use Rattle.std.proofs.Common.{ℕ, zero, suc, ◌+◌, ◌-◌, ◌<◌, ◌≤◌, List, [], ◌∷◌, ◌++◌, length, get_or, arith}
 use Rattle.mq_blocks.specs.Descriptor.{AreRising}
 
 pub rising-lower : (low mid high : ℕ) (xs : List ℕ) → low ≤ mid → AreRising mid high xs → AreRising low high xs
@@ -18,3 +18,16 @@ rising-next low n (x ∷ xs) le r = (r.0, omega (arith, r.1), rising-next (x + 1
 pub rising-few : (low high : ℕ) (xs : List ℕ) → AreRising low high xs → length xs ≤ high - low
 rising-few low high [] r = omega arith
 rising-few low high (x ∷ xs) r = omega (arith, r.0, r.1, rising-few (x + 1) high xs r.2)
+
+-- ---- their numbers
+
+pub rising-low : (low high : ℕ) (xs : List ℕ) (k : ℕ) → AreRising low high xs → k < length xs → low ≤ get_or xs k 0
+rising-low low high [] k r l = absurd (omega arith)
+rising-low low high (x ∷ xs) zero r l = r.0
+rising-low low high (x ∷ xs) (suc k) r l = omega (arith, rising-low (x + 1) high xs k r.2 (omega arith))
+
+pub rising-order : (low high : ℕ) (xs : List ℕ) (k m : ℕ) → AreRising low high xs → k < m → m < length xs → get_or xs k 0 < get_or xs m 0
+rising-order low high [] k m r h l = absurd (omega arith)
+rising-order low high (x ∷ xs) k zero r h l = absurd (omega arith)
+rising-order low high (x ∷ xs) zero (suc m) r h l = omega (arith, rising-low (x + 1) high xs m r.2 (omega arith))
+rising-order low high (x ∷ xs) (suc k) (suc m) r h l = rising-order (x + 1) high xs k m r.2 (omega arith) (omega arith)

@@ -1,6 +1,6 @@
 -- Numbers that are near each other have different remainders.
 use Rattle.std.proofs.Common.{◌≢◌, ◌<◌, ◌+◌, ◌%◌, ℕ, arith}
-use Rattle.mq_blocks.specs.Drive.{depth}
+use Rattle.mq_blocks.specs.Limits.{depth}
 
 pub mod_apart : (n a b : ℕ) → a < b → b < a + n → a % n ≢ b % n
 mod_apart n a b l u = grind arith

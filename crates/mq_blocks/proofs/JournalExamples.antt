@@ -1,9 +1,11 @@
 -- Worked examples of the definitions. Contents of blocks are short lists here.
-use Rattle.std.proofs.Common.{◌≡◌, ◌≢◌, ◌<◌, ◌≤◌, ◌^◌, ◌-◌, ℕ, refl, arith, lit<, lit≤, subst, ⊎_elim}
+use Rattle.std.proofs.Common.{◌≡◌, ◌≢◌, ◌<◌, ◌≤◌, ◌^◌, ◌-◌, ℕ, inr, refl, arith, lit<, lit≤, subst, ⊎_elim}
 use Rattle.std.specs.Prelude.{List, [], ◌∷◌, Option, Some, None, codes, true, nat_eq, if◌then◌else◌}
-use Rattle.mq_blocks.specs.Descriptor.{Descriptor, AreRising, IsGood, descriptor_bytes, list_bytes, magic}
+use Rattle.byteorder.specs.Endian.{little_number}
+use Rattle.mq_blocks.specs.Descriptor.{Descriptor, AreRising, IsGood, IsDescriptor, further_for, journal_form, journal_magic, last_block, list_bytes}
+use Rattle.mq_blocks.specs.Limits.{newest_version}
 use Rattle.mq_blocks.specs.Drive.{no_fuse, PortState, counted, index_of, without_last}
-use Rattle.mq_blocks.specs.Geometry.{zone_of, home_lba, area_lba, homes_of}
+use Rattle.mq_blocks.specs.Geometry.{zone_of, home_lba, area_lba, homes_of, write_limit, shaped}
 use Rattle.mq_blocks.specs.Journal.{Shown, WriteFields, Has, AreInRow, AreWhole, IsChain, IsQueueChain, Reaches, stands}
 use Rattle.mq_blocks.specs.Machine.{Map, Transaction, after, after_all, last_change}
 use Rattle.mq_blocks.specs.declared.command.HomeWrite.{HomeWrite}
@@ -13,35 +15,11 @@ use Rattle.mq_blocks.specs.declared.geometry.Geometry.{Geometry}
 
 -- one queue: the area's Lbas are 0 to 1023, the home blocks' 1024 to 1279
 abbrev small : Geometry
-small = record {
-  queues = 1;
-  area = 1024;
-  meta = 16;
-  zone = 240;
-  queues_low = lit≤ tt;
-  queues_high = lit≤ tt;
-  area_low = lit≤ tt;
-  area_high = lit≤ tt;
-  meta_low = lit≤ tt;
-  zone_low = lit≤ tt;
-  homes_high = lit≤ tt;
-}
+small = shaped 1 1024 16 240 (lit≤ tt, lit≤ tt) (lit≤ tt, lit≤ tt) (lit≤ tt, lit≤ tt, lit≤ tt)
 
 -- two queues: the areas' Lbas are 0 to 2047, the home blocks' 2048 to 2623
 abbrev two : Geometry
-two = record {
-  queues = 2;
-  area = 1024;
-  meta = 64;
-  zone = 256;
-  queues_low = lit≤ tt;
-  queues_high = lit≤ tt;
-  area_low = lit≤ tt;
-  area_high = lit≤ tt;
-  meta_low = lit≤ tt;
-  zone_low = lit≤ tt;
-  homes_high = lit≤ tt;
-}
+two = shaped 2 1024 64 256 (lit≤ tt, lit≤ tt) (lit≤ tt, lit≤ tt) (lit≤ tt, lit≤ tt, lit≤ tt)
 
 small_homes : homes_of small ≡ 256
 small_homes = refl
@@ -85,7 +63,7 @@ two_place = refl
 
 -- ---- descriptors
 
-magic_text : magic ≡ codes "MQFSDSC1"
+magic_text : journal_magic ≡ little_number 8 (codes "MQFSDSC1")
 magic_text = refl
 
 list_of_two : list_bytes (1 ∷ 3 ∷ []) ≡ 1 ∷ 0 ∷ 0 ∷ 0 ∷ 3 ∷ 0 ∷ 0 ∷ 0 ∷ []
@@ -143,7 +121,7 @@ later = record {
 
 -- the blocks of the area: the first two descriptors, and copies that hold their places
 abbrev area_block : ℕ → List ℕ
-area_block k = if nat_eq k 2 then descriptor_bytes first else (if nat_eq k 4 then descriptor_bytes second else k ∷ [])
+area_block k = if nat_eq k 2 then last_block journal_form newest_version first else (if nat_eq k 4 then last_block journal_form newest_version second else k ∷ [])
 
 -- the last entry of the second transaction names its descriptor
 abbrev slot_entry : ℕ → Option WriteFields
@@ -152,6 +130,7 @@ slot_entry k = if nat_eq k 5 then Some (2, 4, true) else None
 -- the first two transactions are done, and none is under way; a home block holds its number and 255
 abbrev journal : Shown
 journal = record {
+  form = journal_form;
   base = 0;
   head = λ q. 6;
   doorbell = λ q. 6;
@@ -167,20 +146,25 @@ not_in_row : AreInRow 0 (later ∷ first ∷ []) → ⊥
 not_in_row r = omega (arith, r.0)
 
 copy_stands : stands small journal (first ∷ []) 21 ≡ 1 ∷ []
+unfolding further_for
 copy_stands = refl
 
 later_copy_stands : stands small journal (second ∷ first ∷ []) 20 ≡ 3 ∷ []
+unfolding further_for
 later_copy_stands = refl
 
 -- the revoked copy counts no more
 home_stands : stands small journal (second ∷ first ∷ []) 21 ≡ 21 ∷ 255 ∷ []
+unfolding further_for
 home_stands = refl
 
 unlogged_stands : stands small journal (second ∷ first ∷ []) 22 ≡ 22 ∷ 255 ∷ []
+unfolding further_for
 unlogged_stands = refl
 
 -- a revocation takes no later copy away
 copied_again : stands small journal (later ∷ second ∷ first ∷ []) 21 ≡ 0 ∷ []
+unfolding further_for
 copied_again = refl
 
 -- ---- a readable journal
@@ -188,7 +172,8 @@ copied_again = refl
 abbrev both : List Descriptor
 both = second ∷ first ∷ []
 
-first_good : IsGood 256 first
+first_good : IsGood (write_limit small) 256 first
+unfolding further_for write_limit
 first_good = record {
   queue = lit< tt;
   number = lit< tt;
@@ -203,7 +188,8 @@ first_good = record {
   apart = tt;
 }
 
-second_good : IsGood 256 second
+second_good : IsGood (write_limit small) 256 second
+unfolding further_for write_limit
 second_good = record {
   queue = lit< tt;
   number = lit< tt;
@@ -218,14 +204,23 @@ second_good = record {
   apart = ((λ same. absurd (omega (arith, same)), tt), tt);
 }
 
+first_is : IsDescriptor journal_form (write_limit small) 256 (last_block journal_form newest_version first) (1 ∷ []) first
+unfolding further_for write_limit
+first_is = record { version = newest_version; known = inr refl; last = refl; rest = λ one. absurd (omega (arith, one)); good = first_good }
+
+second_is : IsDescriptor journal_form (write_limit small) 256 (last_block journal_form newest_version second) (3 ∷ []) second
+unfolding further_for write_limit
+second_is = record { version = newest_version; known = inr refl; last = refl; rest = λ one. absurd (omega (arith, one)); good = second_good }
+
 chain : IsChain small journal 0 2 4 both
 chain = (
   lit< tt,
-  record { is = refl; good = second_good; queue_is = refl; number_is = refl; place_is = refl },
-  (lit< tt, record { is = refl; good = first_good; queue_is = refl; number_is = refl; place_is = refl }, lit≤ tt),
+  record { is = second_is; queue_is = refl; number_is = refl; place_is = refl },
+  (lit< tt, record { is = first_is; queue_is = refl; number_is = refl; place_is = refl }, lit≤ tt),
 )
 
 queue_chain : IsQueueChain small journal 0 both
+unfolding further_for
 queue_chain = record {
   number = 2;
   lba = 4;

@@ -10,7 +10,9 @@ pub mod WindowsWritten
 pub mod DriveBegun
 pub mod DriveQuiescent
 pub mod DriveRemainders
+pub mod DescriptorLimits
 pub mod DescriptorRising
 pub mod DriveSaturation
 pub mod BlocksZeros
 pub mod GeometryZones
+pub mod Ports

@@ -6,18 +6,10 @@
 use Rattle.std.specs.Prelude.{◌≡◌, ◌≢◌, ◌⊎◌, ◌<◌, ◌≤◌, ℕ, ◌+◌, ◌-◌, ◌%◌, ◌^◌, zero, suc, min, Bool, true, false, List, [], ◌∷◌, ◌++◌, length, Option, Some, None, slice_index_or, slice_set, nat_lt, nat_eq, if◌then◌else◌}
 use Rattle.std.specs.Coded.{×_prop, Unit-prop, le_prop}
 use Rattle.std.specs.List.{remove}
+use Rattle.mq_blocks.specs.Limits.{depth}
 use Rattle.mq_blocks.specs.Blocks.{block_at}
 use Rattle.mq_blocks.specs.declared.command.Command.{Command}
 use Rattle.mq_blocks.specs.declared.command.HomeWrite.{HomeWrite}
-
--- the slots of a queue's ring
-abbrev pub depth : ℕ
-depth = 1024
-
--- how many of them may be in use at once: from the head to the staged end one slot stays free, so that the
--- one before the head is never written
-abbrev pub usable_depth : ℕ
-usable_depth = 1023
 
 -- which event fuse it is: the number of events after which the power goes off, if one is given, and the
 -- numbers that distinguish the fuse from all others
@@ -85,7 +77,8 @@ staged_end s = s.doorbell + length s.pending
 -- the port has this block
 abbrev pub Owns : PortState → ℕ → Type 0
 Owns s lba =
-    ((s.area_first ≤ lba) × (lba < s.area_first + s.area_size)) ⊎ ((s.homes_first ≤ lba) × (lba < s.homes_first + s.homes_size))
+    ((s.area_first ≤ lba) × (lba < s.area_first + s.area_size))
+    ⊎ ((s.homes_first ≤ lba) × (lba < s.homes_first + s.homes_size))
 
 -- it is a home block of the port
 abbrev pub IsHome : PortState → ℕ → Type 0
@@ -93,7 +86,8 @@ IsHome s lba = (s.homes_first ≤ lba) × (lba < s.homes_first + s.homes_size)
 
 -- where the block stands among the port's
 abbrev pub index_of : PortState → ℕ → ℕ
-index_of s lba = if nat_lt lba s.homes_first then lba - s.area_first else s.area_size + (lba - s.homes_first)
+index_of s lba =
+    if nat_lt lba s.homes_first then lba - s.area_first else s.area_size + (lba - s.homes_first)
 
 -- none of these commands stands below this count
 abbrev pub AreFrom : ℕ → List Command → Type 0
@@ -152,11 +146,14 @@ after_doubt s lba = record s { certain = slice_set s.certain (index_of s lba) fa
 
 -- the posted command at this index, which is c, has ended with success
 abbrev pub after_done : PortState → ℕ → Command → PortState
-after_done s i c = record (after_write s c.lba c.block) { posted = remove s.posted i; events = counted s.events 1 }
+after_done s i c =
+    record (after_write s c.lba c.block) { posted = remove s.posted i; events = counted s.events 1 }
 
 -- it has ended with an error
 abbrev pub after_failed : PortState → ℕ → Command → PortState
-after_failed s i c = record (after_doubt s c.lba) { posted = remove s.posted i; failed = s.failed ++ c ∷ []; events = counted s.events 1 }
+after_failed s i c =
+    record (after_doubt s c.lba)
+    { posted = remove s.posted i; failed = s.failed ++ c ∷ []; events = counted s.events 1 }
 
 abbrev pub after_store_head : PortState → ℕ → PortState
 after_store_head s head = record s { stored_head = head; events = counted s.events 1 }
@@ -178,7 +175,8 @@ holds_write lba (w ∷ ws) = if nat_eq w.lba lba then true else holds_write lba 
 
 abbrev pub without_last : ℕ → List HomeWrite → List HomeWrite
 without_last lba [] = []
-without_last lba (w ∷ ws) = if holds_write lba ws then w ∷ without_last lba ws else (if nat_eq w.lba lba then ws else w ∷ ws)
+without_last lba (w ∷ ws) =
+    if holds_write lba ws then w ∷ without_last lba ws else (if nat_eq w.lba lba then ws else w ∷ ws)
 
 -- the last home write of the block that has begun has ended
 abbrev pub after_end : PortState → ℕ → List ℕ → PortState
@@ -214,7 +212,8 @@ pub record IsImage (s : PortState) (i : PortImage) : Type 0 where
   pub head : (i.head ≡ s.head) ⊎ (i.head ≡ s.stored_head)
   pub base : (i.base ≡ s.base) ⊎ (i.base ≡ s.stored_base)
   pub slots_len : length i.slots ≡ length s.flushed
-  pub slots : (k : ℕ) → k < length s.flushed → IsFlushed s k → slice_index_or i.slots k [] ≡ slice_index_or s.flushed k []
+  pub slots : (k : ℕ) → k < length s.flushed → IsFlushed s k
+      → slice_index_or i.slots k [] ≡ slice_index_or s.flushed k []
   pub blocks_len : length i.blocks ≡ length s.blocks
   pub blocks : (k : ℕ) → k < length s.blocks → IsCertain s k → block_at i.blocks k ≡ block_at s.blocks k
 
@@ -231,4 +230,5 @@ pub record IsQuiescent (s : PortState) : Type 0 where
 
 -- the image of a port that has one
 abbrev pub image_of : PortState → PortImage
-image_of s = record { doorbell = s.doorbell; head = s.head; base = s.base; slots = s.flushed; blocks = s.blocks }
+image_of s =
+    record { doorbell = s.doorbell; head = s.head; base = s.base; slots = s.flushed; blocks = s.blocks }

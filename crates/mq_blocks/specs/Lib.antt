@@ -3,6 +3,7 @@ pub mod Descriptor
 pub mod Drive
 pub mod Geometry
 pub mod Journal
+pub mod Limits
 pub mod Machine
 pub mod Ports
 pub mod Totals

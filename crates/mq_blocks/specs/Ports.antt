@@ -1,6 +1,7 @@
 -- The part of the drive that a port has: a queue's, or the root's, which is no queue's.
 use Rattle.std.specs.Prelude.{◌≡◌, ℕ, ◌+◌, ◌*◌, length, Option, Some, None}
-use Rattle.mq_blocks.specs.Drive.{PortState, depth}
+use Rattle.mq_blocks.specs.Drive.{PortState}
+use Rattle.mq_blocks.specs.Limits.{depth}
 use Rattle.mq_blocks.specs.declared.geometry.Geometry.{Geometry}
 
 abbrev pub area_first_of : Geometry → Option ℕ → ℕ

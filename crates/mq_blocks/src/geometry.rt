@@ -1,7 +1,7 @@
 // Where blocks lie.
 ghost use Rattle.std.specs.Prelude.{◌≡◌, ◌≢◌, ◌<◌, ◌≤◌, ◌+◌, ◌*◌, ◌^◌, ◌⊎◌, ◌↔◌, IsErrOf, IsOk, IfOk, IsNone, IfSome};
 
-use crate::{BlockNo, Lba, QueueNo};
+use crate::{BlockNo, LIST_LIMIT, Lba, QueueNo};
 
 /// The shape of a drive: its queues, the blocks of each queue's journal area, and its home blocks,
 /// which are a metadata region and one zone for each queue.
@@ -90,10 +90,15 @@ impl Geometry {
     }
 
     /// The most blocks that one transaction may write.
+    #[tactic(auto, unfolding(crate::specs::Geometry::write_limit))]
     pub fn write_limit(&self) -> u32
         ensures { result ≡ write_limit self.now }
     {
-        1000
+        if self.area < LIST_LIMIT + 24 {
+            self.area - 24
+        } else {
+            LIST_LIMIT
+        }
     }
 
     /// The number of home blocks.

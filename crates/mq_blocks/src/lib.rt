@@ -13,5 +13,7 @@ pub use block::{Block, OutOfMemory};
 pub use command::{Command, HomeWrite};
 pub use geometry::{Geometry, GeometryRefusal};
 pub use laws::addresses_are_apart;
-pub use limits::{LIST_LIMIT, RING_DEPTH, USABLE_DEPTH};
+pub use limits::{
+    DESCRIPTOR_VERSION, ENTRIES_IN_ONE, LIST_LIMIT, RING_DEPTH, USABLE_DEPTH, further_blocks,
+};
 pub use numbers::{BlockNo, Lba, QueueNo, TxNo};

@@ -5,19 +5,19 @@ use Rattle.mq_blocks.specs.Drive.{PortState}
 use Rattle.mq_drive.specs.Steps.{PortFault}
 use Rattle.mq_drive.specs.declared.port.Port.{Ghosts}
 use Rattle.mq_checkpoint.specs.Steps.{IsKnownFrom}
-use Rattle.mq_files.specs.Group.{file_group}
-use Rattle.mq_files.specs.declared.entry.FileEntry.{FileEntry}
+use Rattle.mq_file_entries.specs.Group.{file_group}
+use Rattle.mq_file_entries.specs.declared.entry.FileEntry.{FileEntry}
 use Rattle.mq_journal.specs.Draining.{report_of}
 use Rattle.mq_journal.specs.Held.{IsDrainOf, drain_answer}
 use Rattle.mq_journal.specs.Numbers.{HoldsSide, IsSomeKnown, Seat, Shared, ShowsReport, Start}
 use Rattle.mq_journal.proofs.LawsInHand.{held_is_current, kept_shows}
-use Rattle.mq_rules.specs.Rule.{IsSide}
-use Rattle.mq_side.specs.Drained.{DrainCause, Drains}
-use Rattle.mq_side.specs.Side.{side_state}
-use Rattle.mq_side.specs.declared.answers.Cause.{Cause}
-use Rattle.mq_side.specs.declared.answers.Cause.TheVariants.{Stopped}
-use Rattle.mq_side.specs.declared.answers.Why.{Why}
-use Rattle.mq_side.specs.declared.side.QueueSide.{QueueSide}
+use Rattle.mq_desk_laws.specs.Rule.{IsSide}
+use Rattle.mq_queue_side.specs.Drained.{DrainCause, Drains}
+use Rattle.mq_queue_side.specs.Side.{side_state}
+use Rattle.mq_queue_side.specs.declared.answers.Cause.{Cause}
+use Rattle.mq_queue_side.specs.declared.answers.Cause.TheVariants.{Stopped}
+use Rattle.mq_queue_side.specs.declared.answers.Why.{Why}
+use Rattle.mq_queue_side.specs.declared.side.QueueSide.{QueueSide}
 use Rattle.mq_turns.specs.Desk.{Sees}
 use Rattle.mq_calls.specs.Acts.{IsCaused, drained, kept}
 use Rattle.mq_calls.specs.Preparing.{cause_kept}

@@ -8,16 +8,16 @@ use Rattle.mq_blocks.proofs.DescriptorRising.{rising-few}
 use Rattle.mq_drive.specs.Steps.{PortFault}
 use Rattle.mq_drive.specs.declared.port.Port.{Ghosts}
 use Rattle.mq_exec.specs.declared.outcome.Done.{Done}
-use Rattle.mq_files.specs.Group.{file_group}
-use Rattle.mq_files.specs.Laws.{blocks_in}
-use Rattle.mq_files.specs.declared.entry.FileEntry.{FileEntry}
-use Rattle.mq_files.proofs.Entries.{done_rises}
+use Rattle.mq_file_entries.specs.Group.{file_group}
+use Rattle.mq_file_entries.specs.Laws.{blocks_in}
+use Rattle.mq_file_entries.specs.declared.entry.FileEntry.{FileEntry}
+use Rattle.mq_file_entries.proofs.Entries.{done_rises}
 use Rattle.mq_journal.specs.Draining.{report_of}
 use Rattle.mq_journal.specs.Numbers.{Seat, Shared, Start, reported}
 use Rattle.mq_journal.specs.Sweeping.{HasSwept}
 use Rattle.mq_pages.specs.Held.{Cells, HeldCells}
 use Rattle.mq_pages.specs.declared.page.Write.{Write}
-use Rattle.mq_rules.specs.Rule.{geometry_of, map_now}
+use Rattle.mq_desk_laws.specs.Rule.{geometry_of, map_now}
 use Rattle.mq_tree.specs.declared.request.Reply.{Reply}
 use Rattle.mq_tree.specs.declared.request.Request.{Request}
 use Rattle.mq_turns.specs.Lists.{Each}

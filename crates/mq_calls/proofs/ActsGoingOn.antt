@@ -4,11 +4,11 @@ use Rattle.mq_blocks.specs.Drive.{PortState}
 use Rattle.mq_drive.specs.Steps.{PortFault}
 use Rattle.mq_drive.specs.declared.port.Port.{Ghosts}
 use Rattle.mq_exec.specs.declared.outcome.Done.{Done}
-use Rattle.mq_files.specs.Group.{file_group}
-use Rattle.mq_files.specs.declared.entry.FileEntry.{FileEntry}
+use Rattle.mq_file_entries.specs.Group.{file_group}
+use Rattle.mq_file_entries.specs.declared.entry.FileEntry.{FileEntry}
 use Rattle.mq_journal.specs.Numbers.{Seat}
 use Rattle.mq_journal.specs.Sweeping.{HasSwept, WasRefused}
-use Rattle.mq_side.specs.declared.answers.Cause.{Cause}
+use Rattle.mq_queue_side.specs.declared.answers.Cause.{Cause}
 use Rattle.mq_turns.specs.declared.rule.Charge.{Charge}
 use Rattle.mq_turns.specs.declared.rule.Report.{Report}
 use Rattle.mq_calls.specs.Acts.{Call, GoesOn}

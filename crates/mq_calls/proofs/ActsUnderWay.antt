@@ -5,18 +5,18 @@ use Rattle.mq_blocks.specs.Drive.{PortState}
 use Rattle.mq_drive.specs.Steps.{PortFault}
 use Rattle.mq_drive.specs.declared.port.Port.{Ghosts}
 use Rattle.mq_exec.specs.declared.outcome.Done.{Done}
-use Rattle.mq_files.specs.Group.{file_group}
-use Rattle.mq_files.specs.declared.entry.FileEntry.{FileEntry}
+use Rattle.mq_file_entries.specs.Group.{file_group}
+use Rattle.mq_file_entries.specs.declared.entry.FileEntry.{FileEntry}
 use Rattle.mq_journal.specs.Numbers.{HasNumbered, HoldsNumbered, Seat, Shared, Start}
 use Rattle.mq_journal.proofs.NumbersHolding.{numbered_known}
 use Rattle.mq_ledger.specs.History.{IsAt, of_queue}
 use Rattle.mq_ledger.specs.Items.{total}
 use Rattle.mq_ledger.specs.declared.tx.Tx.{Tx}
 use Rattle.mq_ledger.proofs.HistoryQueues.{FromQueue-of}
-use Rattle.mq_rules.specs.Rule.{history_of}
-use Rattle.mq_rules.proofs.RuleSettled.{entry_at}
-use Rattle.mq_side.specs.Commits.{NumberedCommit}
-use Rattle.mq_side.specs.declared.side.QueueSide.{QueueSide}
+use Rattle.mq_desk_laws.specs.Rule.{history_of}
+use Rattle.mq_desk_laws.proofs.RuleSettled.{entry_at}
+use Rattle.mq_queue_side.specs.Commits.{NumberedCommit}
+use Rattle.mq_queue_side.specs.declared.side.QueueSide.{QueueSide}
 use Rattle.mq_turns.specs.Desk.{Sees}
 use Rattle.mq_turns.specs.Marks.{is_claimed}
 use Rattle.mq_turns.specs.Meaning.{HasNumberAt}

@@ -13,15 +13,15 @@ use Rattle.mq_blocks.proofs.Options.{option-cases}
 use Rattle.mq_drive.specs.Steps.{PortFault}
 use Rattle.mq_drive.specs.declared.port.Port.{Ghosts}
 use Rattle.mq_exec.specs.declared.outcome.Done.{Done}
-use Rattle.mq_files.specs.Entries.{Changes, freed_by, tx_of, written_by}
-use Rattle.mq_files.specs.Group.{file_group}
-use Rattle.mq_files.specs.Laws.{DoneGroupsMay, DoneGroupsMayBeDrawn, blocks_in}
-use Rattle.mq_files.specs.Plans.{DoneOn, IsEntryOf, IsPlaced, IsPlanned, is_data, planned_by, planned_by_cell, planned_with}
-use Rattle.mq_files.specs.declared.entry.FileEntry.{FileEntry}
-use Rattle.mq_files.specs.declared.entry.Reads.{Reads as WordsRead}
-use Rattle.mq_files.proofs.Entries.{done_planned, done_rises, tells_commit, tells_plan}
-use Rattle.mq_files.proofs.LawsRuling.{may, tells_plans}
-use Rattle.mq_files.proofs.LawsWritten.{only}
+use Rattle.mq_file_entries.specs.Entries.{Changes, freed_by, tx_of, written_by}
+use Rattle.mq_file_entries.specs.Group.{file_group}
+use Rattle.mq_file_entries.specs.Laws.{DoneGroupsMay, DoneGroupsMayBeDrawn, blocks_in}
+use Rattle.mq_file_entries.specs.Plans.{DoneOn, IsEntryOf, IsPlaced, IsPlanned, is_data, planned_by, planned_by_cell, planned_with}
+use Rattle.mq_file_entries.specs.declared.entry.FileEntry.{FileEntry}
+use Rattle.mq_file_entries.specs.declared.entry.Reads.{Reads as WordsRead}
+use Rattle.mq_file_entries.proofs.Entries.{done_planned, done_rises, tells_commit, tells_plan}
+use Rattle.mq_file_entries.proofs.LawsRuling.{may, tells_plans}
+use Rattle.mq_file_entries.proofs.LawsWritten.{only}
 use Rattle.mq_inodes.specs.Pages.{held_pages, page_in}
 use Rattle.mq_journal.specs.Numbers.{HasPlace, MayCome, Seat, Shared, Start}
 use Rattle.mq_journal.proofs.LawsInHand.{held_is_current}
@@ -33,15 +33,15 @@ use Rattle.mq_revoke.specs.Guard.{placed_of}
 use Rattle.mq_revoke.specs.Placed.{Placed}
 use Rattle.mq_revoke.specs.Placing.{IsPlacement}
 use Rattle.mq_revoke.specs.declared.placement.Planned.{Planned}
-use Rattle.mq_rules.specs.Rule.{May, core_of, geometry_of, history_of, map_now, start_of, touches}
-use Rattle.mq_rules.specs.Values.{Values}
-use Rattle.mq_rules.proofs.RuleSettled.{front_claimed}
-use Rattle.mq_rules.proofs.Meaning.{laws}
-use Rattle.mq_side.specs.Commits.{IsPlanOf, written_in}
-use Rattle.mq_side.specs.Stored.{FitIs, IsBounded, rows_of}
-use Rattle.mq_side.specs.declared.answers.Fit.TheVariants.{Area, Yes}
-use Rattle.mq_side.specs.declared.root.Root.{Root}
-use Rattle.mq_side.specs.declared.side.QueueSide.{QueueSide}
+use Rattle.mq_desk_laws.specs.Rule.{May, core_of, geometry_of, history_of, map_now, start_of, touches}
+use Rattle.mq_desk_laws.specs.Values.{Values}
+use Rattle.mq_desk_laws.proofs.RuleSettled.{front_claimed}
+use Rattle.mq_desk_laws.proofs.Meaning.{laws}
+use Rattle.mq_queue_side.specs.Commits.{IsPlanOf, written_in}
+use Rattle.mq_queue_side.specs.Stored.{FitIs, IsBounded, rows_of}
+use Rattle.mq_queue_side.specs.declared.answers.Fit.TheVariants.{Area, Yes}
+use Rattle.mq_queue_side.specs.declared.root.Root.{Root}
+use Rattle.mq_queue_side.specs.declared.side.QueueSide.{QueueSide}
 use Rattle.mq_tree.specs.declared.request.Request.{Request}
 use Rattle.mq_turns.specs.Chairs.{giving}
 use Rattle.mq_turns.specs.Desk.{Follows, IsTurn, Sees, slot_of}
@@ -169,7 +169,7 @@ module _ {P : Type 0} {G : Ghosts P} (state : P → PortState) (faults : P → L
 
       planned : (K : Shared P FileEntry G) → Sees μ rest K → IsPlanned (core_of V file_group K) e
       planned K sees = record {
-        few = subst (λ (ws : List Write). length ws ≤ write_limit g) (sym is.writes_are) few;
+        few = subst (λ (x : Geometry). length (written_by e) ≤ write_limit x) (sym (shape-seen K sees)) (subst (λ (ws : List Write). length ws ≤ write_limit g) (sym is.writes_are) few);
         front_low = front_claimed V file_group e.reads.front K sees.ok (let l = sees.reader.last in omega arith) (λ m d at low. sees.reader.done m d at (omega arith));
         base_low = (let l = sees.reader.base in omega arith);
         placed = placed-by K sees;

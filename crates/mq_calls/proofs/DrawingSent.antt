@@ -6,17 +6,17 @@ use Rattle.std.proofs.lemmas.List.Elements.{All-cons, All-nil}
 use Rattle.mq_blocks.specs.Drive.{PortState}
 use Rattle.mq_drive.specs.Steps.{PortFault}
 use Rattle.mq_drive.specs.declared.port.Port.{Ghosts}
-use Rattle.mq_files.specs.Group.{file_group}
-use Rattle.mq_files.specs.declared.entry.FileEntry.{FileEntry}
+use Rattle.mq_file_entries.specs.Group.{file_group}
+use Rattle.mq_file_entries.specs.declared.entry.FileEntry.{FileEntry}
 use Rattle.mq_journal.specs.Numbers
 use Rattle.mq_journal.specs.Numbers.{Draws, IsReported, Seat, Shared, Start, WasCut, reported}
 use Rattle.mq_journal.specs.Laws.{without_each}
 use Rattle.mq_pages.specs.Held.{Cells}
 use Rattle.mq_pages.specs.declared.page.PageCell.{PageCell}
-use Rattle.mq_rules.specs.Rule.{touches}
-use Rattle.mq_side.specs.Commits.{NumberedCommit}
-use Rattle.mq_side.specs.declared.root.Root.{Root}
-use Rattle.mq_side.specs.declared.side.QueueSide.{QueueSide}
+use Rattle.mq_desk_laws.specs.Rule.{touches}
+use Rattle.mq_queue_side.specs.Commits.{NumberedCommit}
+use Rattle.mq_queue_side.specs.declared.root.Root.{Root}
+use Rattle.mq_queue_side.specs.declared.side.QueueSide.{QueueSide}
 use Rattle.mq_turns.specs.Chairs.{giving}
 use Rattle.mq_turns.specs.Desk.{refreshed, slot_of, turn_at}
 use Rattle.mq_turns.specs.Lists.{Each, tick, times, without}
@@ -27,7 +27,8 @@ use Rattle.mq_turns.specs.declared.rule.Notice.TheVariants as notice
 use Rattle.mq_turns.specs.declared.rule.Report.{Report}
 use Rattle.mq_turns.specs.declared.turn.Turn.TheVariants.{Page, Side}
 use Rattle.mq_turns.proofs.Lists.{each_map, times_without, times_without_other, miss}
-use Rattle.mq_turns.proofs.DeskSeen.{times_renewed, turn_seen}
+use Rattle.mq_turns.proofs.DeskSeen.{turn_seen}
+use Rattle.mq_turns.proofs.DeskTurns.{times_refreshed}
 use Rattle.mq_calls.specs.Acts.{IsUnderWay, WasCutAt}
 use Rattle.mq_calls.specs.Committing.{HoldsCommit, OnlyReports}
 use Rattle.mq_calls.specs.Drawing.{HasDrawn}
@@ -55,7 +56,7 @@ module _ {P : Type 0} {G : Ghosts P} (state : P → PortState) (faults : P → L
         let one : times k (without slot (refreshed about L l)) ≡ 0 = subst (λ (n : ℕ). times n (without slot (refreshed about L l)) ≡ 0) (sym same) (times_without slot (refreshed about L l)) in
         let other : times k (without slot l) ≡ 0 = subst (λ (n : ℕ). times n (without slot l) ≡ 0) (sym same) (times_without slot l) in
         one ∙ sym other
-    | inr apart ↦ times_without_other slot k (refreshed about L l) apart ∙ times_renewed μ about L k l ∙ sym (times_without_other slot k l apart)
+    | inr apart ↦ times_without_other slot k (refreshed about L l) apart ∙ times_refreshed about L k l ∙ sym (times_without_other slot k l apart)
   ]
 
   -- ---- a send
@@ -63,7 +64,7 @@ module _ {P : Type 0} {G : Ghosts P} (state : P → PortState) (faults : P → L
   none-left : (o : Start P FileEntry G) (q : ℕ) (cells : Cells) (about more : ℕ → Bool) (K L : Shared P FileEntry G) (l : List (ℕ × Shared P FileEntry G)) → ((k : ℕ) → times k l ≡ times k cells + tick (slot_of o (Side q)) k) → without (slot_of o (Side q)) (refreshed more L (without_each (blocks_of cells) (refreshed about K l))) ≡ []
   none-left o q cells about more K L l only =
       let slot = slot_of o (Side q) in
-      let each : (k : ℕ) → times k (refreshed about K l) ≡ times k cells + tick slot k = λ k. times_renewed μ about K k l ∙ only k in
+      let each : (k : ℕ) → times k (refreshed about K l) ≡ times k cells + tick slot k = λ k. times_refreshed about K k l ∙ only k in
       let none = nothing-left cells slot (refreshed about K l) each in
       none-held _ (λ k. given-renewed k slot more L (without_each (blocks_of cells) (refreshed about K l)) ∙ ap (times k) none)
 

@@ -12,12 +12,12 @@ use Rattle.mq_blocks.specs.Machine.{after, or_kept, write_of}
 use Rattle.mq_drive.specs.Steps.{PortFault}
 use Rattle.mq_drive.specs.declared.port.Port.{Ghosts}
 use Rattle.mq_exec.specs.declared.outcome.Done.{Done}
-use Rattle.mq_files.specs.Entries.{tx_by, tx_of}
-use Rattle.mq_files.specs.Laws.{blocks_in}
-use Rattle.mq_files.specs.Pages.{LeavesBelow}
-use Rattle.mq_files.specs.Plans.{IsEntryOf}
-use Rattle.mq_files.specs.declared.entry.FileEntry.{FileEntry}
-use Rattle.mq_files.proofs.PagesSettled.{stays_below, page_by}
+use Rattle.mq_file_entries.specs.Entries.{tx_by, tx_of}
+use Rattle.mq_file_entries.specs.Laws.{blocks_in}
+use Rattle.mq_file_entries.specs.Pages.{LeavesBelow}
+use Rattle.mq_file_entries.specs.Plans.{IsEntryOf}
+use Rattle.mq_file_entries.specs.declared.entry.FileEntry.{FileEntry}
+use Rattle.mq_file_entries.proofs.PagesSettled.{stays_below, page_by}
 use Rattle.mq_inodes.specs.Pages.{held_pages, page_in}
 use Rattle.mq_journal.specs.Numbers
 use Rattle.mq_journal.specs.Numbers.{Draws, HoldsNumbered, Seat, Shared, Start}
@@ -30,15 +30,15 @@ use Rattle.mq_pages.specs.Held.{Cells, IsRising, cell_of}
 use Rattle.mq_pages.specs.declared.page.PageCell.{PageCell}
 use Rattle.mq_pages.specs.declared.page.Write.{Write}
 use Rattle.mq_revoke.specs.Placed.{Placed}
-use Rattle.mq_rules.specs.Cells.{cell_after}
-use Rattle.mq_rules.specs.Groups.{GroupView}
-use Rattle.mq_rules.specs.Rule.{IsPage, numbered, touches}
-use Rattle.mq_rules.specs.Values.{Values}
-use Rattle.mq_rules.proofs.Cells.{page_drawn}
-use Rattle.mq_rules.proofs.Meaning.{laws}
-use Rattle.mq_side.specs.Commits.{NumberedCommit}
-use Rattle.mq_side.specs.declared.root.Root.{Root}
-use Rattle.mq_side.specs.declared.side.QueueSide.{QueueSide}
+use Rattle.mq_desk_laws.specs.Cells.{cell_after}
+use Rattle.mq_desk_laws.specs.Groups.{GroupView}
+use Rattle.mq_desk_laws.specs.Rule.{IsPage, numbered, touches}
+use Rattle.mq_desk_laws.specs.Values.{Values}
+use Rattle.mq_desk_laws.proofs.Cells.{page_drawn}
+use Rattle.mq_desk_laws.proofs.Meaning.{laws}
+use Rattle.mq_queue_side.specs.Commits.{NumberedCommit}
+use Rattle.mq_queue_side.specs.declared.root.Root.{Root}
+use Rattle.mq_queue_side.specs.declared.side.QueueSide.{QueueSide}
 use Rattle.mq_tree.specs.declared.request.Request.{Request}
 use Rattle.mq_tree.proofs.Members.{cons-cases, cons-here, cons-there, none-contained}
 use Rattle.mq_turns.specs.Chairs.{giving}

@@ -25,3 +25,4 @@ pub mod ActsComposing
 pub mod MountingStartReads
 pub mod ActsGoingOn
 pub mod ActsMakingRoom
+pub mod Helping

@@ -4,15 +4,16 @@ use Rattle.std.proofs.Common.{◌≡◌, ◌≢◌, ◌⊎◌, inl, inr, ℕ, ze
 use Rattle.std.specs.Prelude.{Option, Some, None}
 use Rattle.std.proofs.lemmas.List.{length-replicate, get_or-replicate}
 use Rattle.mq_blocks.specs.Blocks.{block_at}
+use Rattle.mq_blocks.specs.Limits.{depth}
 use Rattle.mq_blocks.specs.Descriptor.{Descriptor}
-use Rattle.mq_blocks.specs.Drive.{PortImage, PortState, depth}
+use Rattle.mq_blocks.specs.Drive.{PortImage, PortState}
 use Rattle.mq_blocks.specs.Geometry.{homes_of}
 use Rattle.mq_blocks.specs.Journal.{AreWhole, number_limit, stands}
 use Rattle.mq_blocks.specs.declared.geometry.Geometry.{Geometry}
 use Rattle.mq_drive.specs.Steps.{PortFault}
 use Rattle.mq_drive.specs.declared.port.Port.{Ghosts}
 use Rattle.mq_drive.specs.declared.port.Ports.{Ports}
-use Rattle.mq_files.specs.declared.entry.FileEntry.{FileEntry}
+use Rattle.mq_file_entries.specs.declared.entry.FileEntry.{FileEntry}
 use Rattle.mq_journal.specs.Numbers.{Start}
 use Rattle.mq_ledger.specs.State.{IsStart, IsStartPort, port_at}
 use Rattle.mq_ledger.specs.Written.{journal_entries}
@@ -117,6 +118,7 @@ whole g d start = record {
 -- nothing is left to bring home
 pub start-read : (g : Geometry) (d : DriveState) → IsStartDrive g d → IsReadPrefix g (view_over g d) [] d.root.base
 start-read g d start = record {
+  form_is = refl;
   chains = none-at;
   whole = whole g d start;
   prefix = record { row = tt; whole = λ x h. absurd h; greatest = λ q x own h. absurd h };

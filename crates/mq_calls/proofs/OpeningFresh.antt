@@ -15,8 +15,8 @@ use Rattle.mq_drive.specs.Faults.{count_of}
 use Rattle.mq_drive.specs.Steps.{PortFault}
 use Rattle.mq_drive.specs.declared.port.Port.{Ghosts}
 use Rattle.mq_drive.specs.declared.port.Ports.{Ports}
-use Rattle.mq_files.specs.Group.{CarriesVolume, file_group}
-use Rattle.mq_files.specs.declared.entry.FileEntry.{FileEntry}
+use Rattle.mq_file_entries.specs.Group.{CarriesVolume, file_group}
+use Rattle.mq_file_entries.specs.declared.entry.FileEntry.{FileEntry}
 use Rattle.mq_journal.specs.Numbers.{Seat, Start}
 use Rattle.mq_journal.specs.Values.{Says, entries_in, least_geometry}
 use Rattle.mq_ledger.specs.State.{IsStart, no_port}
@@ -28,15 +28,15 @@ use Rattle.mq_pmr.specs.declared.rungs.Rung.{Rung}
 use Rattle.mq_recover.specs.Drives.{DriveState, drive_of, view_over}
 use Rattle.mq_recover.specs.Recovery.{IsStartDrive}
 use Rattle.mq_recover.specs.declared.standing.Standing.{Standing}
-use Rattle.mq_rules.specs.Rule as rule
-use Rattle.mq_rules.proofs.Opening.{at_map}
-use Rattle.mq_side.proofs.DrainedCompletes.{bound_now}
-use Rattle.mq_side.specs.Side.{AreRungsOf, IsKept}
-use Rattle.mq_side.specs.Stored.{rows_of}
-use Rattle.mq_side.specs.Told.{IsTold}
-use Rattle.mq_side.specs.declared.answers.Why.{Why}
-use Rattle.mq_side.specs.declared.side.QueueSide.{QueueSide}
-use Rattle.mq_side.proofs.Counts.{same-none}
+use Rattle.mq_desk_laws.specs.Rule as rule
+use Rattle.mq_desk_laws.proofs.Opening.{at_map}
+use Rattle.mq_queue_side.proofs.DrainedCompletes.{bound_now}
+use Rattle.mq_queue_side.specs.Side.{AreRungsOf, IsKept}
+use Rattle.mq_queue_side.specs.Stored.{rows_of}
+use Rattle.mq_queue_side.specs.Told.{IsTold}
+use Rattle.mq_queue_side.specs.declared.answers.Why.{Why}
+use Rattle.mq_queue_side.specs.declared.side.QueueSide.{QueueSide}
+use Rattle.mq_queue_side.proofs.Counts.{same-none}
 use Rattle.mq_tree.specs.Laid.{map_of}
 use Rattle.mq_tree.proofs.LaidMaps.{mapped}
 use Rattle.mq_turns.specs.Desk.{fresh}

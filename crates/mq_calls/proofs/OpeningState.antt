@@ -9,16 +9,17 @@ use Rattle.mq_blocks.specs.Blocks.{block_at}
 use Rattle.mq_blocks.specs.Drive.{PortState}
 use Rattle.mq_blocks.specs.Geometry.{homes_of, meta_of}
 use Rattle.mq_blocks.specs.declared.geometry.Geometry.{Geometry}
+use Rattle.mq_drive.proofs.StartRolePorts.{is-port_of}
 use Rattle.mq_ledger.specs.State.{IsStart, IsStartPort, no_port, port_at}
 use Rattle.mq_ledger.specs.Written.{journal_entries}
 use Rattle.mq_pages.specs.declared.page.PageCell.{PageCell}
 use Rattle.mq_recover.specs.Drives.{DriveState}
 use Rattle.mq_recover.specs.Recovery.{started}
-use Rattle.mq_rules.specs.Groups.{GroupView}
-use Rattle.mq_rules.specs.Opening.{state_of}
-use Rattle.mq_rules.specs.Rule.{shape_of}
-use Rattle.mq_rules.specs.Values.{Values}
-use Rattle.mq_rules.proofs.Opening.{at_map}
+use Rattle.mq_desk_laws.specs.Groups.{GroupView}
+use Rattle.mq_desk_laws.specs.Opening.{state_of}
+use Rattle.mq_desk_laws.specs.Rule.{shape_of}
+use Rattle.mq_desk_laws.specs.Values.{Values}
+use Rattle.mq_desk_laws.proofs.Opening.{at_map}
 use Rattle.mq_tree.specs.Laid.{is_marked, map_of}
 use Rattle.mq_turns.specs.declared.rule.Opening.{Opening}
 use Rattle.mq_calls.specs.Opening.{IsIdle, first_cell, first_cells, stored_map}
@@ -73,18 +74,7 @@ first-numbers g stored base b c e =
 
 idle-at : (g : Geometry) (d : DriveState) (start : List (Option (List ℕ))) (q from : ℕ) (p : PortState) → IsStartPort journal_entries (started g d start) (Some q) from p → IsIdle g q p
 idle-at g d start q from p at = record {
-  port = record {
-    queue = at.port.queue;
-    area_first = at.port.area_first;
-    area_size = at.port.area_size;
-    homes_first = at.port.homes_first;
-    homes_size = at.port.homes_size;
-    flushed = at.port.flushed;
-    staged = at.port.staged;
-    blocks = at.port.blocks;
-    certain = at.port.certain ∙ sym at.port.blocks;
-    settled = λ k l f. ap (λ (xs : List (List ℕ)). get_or xs k []) (sym at.staged);
-  };
+  port = is-port_of at.port (λ k l f. ap (λ (xs : List (List ℕ)). get_or xs k []) (sym at.staged));
   head = at.head ∙ sym at.doorbell;
   stored_head = at.stored_head ∙ sym at.doorbell;
   pending = at.pending;

@@ -16,7 +16,8 @@ use Rattle.mq_turns.specs.declared.turn.Item.TheVariants as item
 use Rattle.mq_turns.specs.declared.turn.Turn.TheVariants.{Page}
 use Rattle.mq_turns.proofs.Lists.{each_append, each_both, each_map, each_without, hit, times_without_other}
 use Rattle.mq_turns.proofs.Meaning.{stays_now}
-use Rattle.mq_turns.proofs.DeskSeen.{stands_held, times_renewed}
+use Rattle.mq_turns.proofs.DeskSeen.{stands_held}
+use Rattle.mq_turns.proofs.DeskTurns.{times_refreshed}
 use Rattle.mq_calls.specs.Pages.{HoldsPage, HoldsPages, IsAfterStep, blocks_of}
 use Rattle.mq_calls.proofs.PagesLists.{above-last, each-block, each-cell, each-front, held-below, rising-front, rising-last}
 
@@ -82,7 +83,7 @@ module _ {Q R E : Type 0} (μ : Meaning PageCell Q R E) where
   page-renewed : (o : Opening PageCell Q R) (v w : ChairView PageCell Q R E) (b : ℕ) (c : PageCell) (about : ℕ → Bool) (L : Known PageCell Q R E) → about b ≡ false → w.held ≡ refreshed about L v.held → HoldsPage μ o v b c → HoldsPage μ o w b c
   page-renewed o v w b c about L apart is h = record {
     turn = h.turn;
-    holds = let a = h.holds in let same = times_renewed μ about L b v.held in let all = ap (times b) is in omega arith;
+    holds = let a = h.holds in let same = times_refreshed about L b v.held in let all = ap (times b) is in omega arith;
     is = subst (Each (λ h. h.0 ≡ b → μ.page b h.1 c)) (sym is) (renewed-still about L b c v.held apart h.is);
   }
 
@@ -104,7 +105,7 @@ module _ {Q R E : Type 0} (μ : Meaning PageCell Q R E) where
   page-about : (o : Opening PageCell Q R) (v w : ChairView PageCell Q R E) (b : ℕ) (old new : PageCell) (about : ℕ → Bool) (L : Known PageCell Q R E) → about b ≡ true → μ.page b L new → w.held ≡ refreshed about L v.held → HoldsPage μ o v b old → HoldsPage μ o w b new
   page-about o v w b old new about L mine page is h = record {
     turn = h.turn;
-    holds = let a = h.holds in let same = times_renewed μ about L b v.held in let all = ap (times b) is in omega arith;
+    holds = let a = h.holds in let same = times_refreshed about L b v.held in let all = ap (times b) is in omega arith;
     is = subst (Each (λ h. h.0 ≡ b → μ.page b h.1 new)) (sym is) (renewed-page about L b new v.held mine page);
   }
 

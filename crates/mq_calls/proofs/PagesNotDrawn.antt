@@ -8,16 +8,16 @@ use Rattle.mq_blocks.specs.declared.geometry.Geometry.{Geometry}
 use Rattle.mq_drive.specs.Steps.{PortFault}
 use Rattle.mq_drive.specs.declared.port.Port.{Ghosts}
 use Rattle.mq_exec.specs.declared.outcome.Done.{Done}
-use Rattle.mq_files.specs.Entries.{IsAllLogged, IsUndrawn}
-use Rattle.mq_files.specs.Group.{file_group}
-use Rattle.mq_files.specs.Plans.{DoneOn, IsEntryOf}
-use Rattle.mq_files.specs.declared.entry.FileEntry.{FileEntry}
-use Rattle.mq_files.proofs.LawsRuling.{fits}
+use Rattle.mq_file_entries.specs.Entries.{IsAllLogged, IsUndrawn}
+use Rattle.mq_file_entries.specs.Group.{file_group}
+use Rattle.mq_file_entries.specs.Plans.{DoneOn, IsEntryOf}
+use Rattle.mq_file_entries.specs.declared.entry.FileEntry.{FileEntry}
+use Rattle.mq_file_entries.proofs.LawsRuling.{fits}
 use Rattle.mq_journal.specs.Numbers.{Seat, Start}
 use Rattle.mq_journal.specs.Laws.{without_each}
 use Rattle.mq_pages.specs.Held.{Cells}
 use Rattle.mq_pages.specs.declared.page.PageCell.{PageCell}
-use Rattle.mq_rules.specs.Rule.{geometry_of, map_now}
+use Rattle.mq_desk_laws.specs.Rule.{geometry_of, map_now}
 use Rattle.mq_tree.specs.Requests.{is_change}
 use Rattle.mq_tree.specs.declared.request.Request.{Request}
 use Rattle.mq_turns.specs.Desk.{Follows, MayRead, after_look}

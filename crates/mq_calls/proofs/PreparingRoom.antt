@@ -1,14 +1,32 @@
 -- The ring of a side has room, or is drained for it.
-use Rattle.std.proofs.Common.{ℕ, ◌≤◌, List, refl, inl, arith}
-use Rattle.mq_blocks.specs.Drive.{PortState}
+use Rattle.std.proofs.Common.{ℕ, ◌+◌, ◌≤◌, List, length, refl, inl, arith}
+use Rattle.mq_blocks.specs.Drive.{PortState, staged_end}
+use Rattle.mq_blocks.specs.Geometry.{area_of, write_limit}
+use Rattle.mq_blocks.specs.declared.geometry.Geometry.{Geometry}
+use Rattle.mq_blocks.proofs.DescriptorLimits.{further-most, limit-high}
 use Rattle.mq_drive.specs.Steps.{PortFault}
 use Rattle.mq_drive.specs.declared.port.Port.{Ghosts}
-use Rattle.mq_files.specs.declared.entry.FileEntry.{FileEntry}
+use Rattle.mq_file_entries.specs.declared.entry.FileEntry.{FileEntry}
 use Rattle.mq_journal.specs.Laws.{HaveSameParts}
 use Rattle.mq_journal.specs.Numbers.{Seat}
 use Rattle.mq_revoke.specs.Placed.{Placed}
-use Rattle.mq_side.specs.declared.side.QueueSide.{QueueSide}
+use Rattle.mq_queue_side.specs.Stored.{FitIs, FitsRing, Row}
+use Rattle.mq_queue_side.specs.declared.answers.Fit.TheVariants.{Ring, Yes}
+use Rattle.mq_queue_side.specs.declared.side.QueueSide.{QueueSide}
 use Rattle.mq_calls.specs.Preparing.{IsDrainedForRoom, IsMadeReady}
+
+-- A ring in which nothing is under way has room for the most blocks that a transaction writes, and for those
+-- of its descriptor: so what fits the area fits.
+pub rests-fit : (g : Geometry) (base : ℕ) (rows : List Row) (p r : PortState) (plan : Placed) → length plan.logged + length plan.direct ≤ write_limit g → staged_end r ≤ r.head → FitIs (area_of g) base rows p plan Ring → FitIs (area_of g) base rows r plan Yes
+rests-fit g base rows p r plan few rests fit =
+    let high = limit-high g in
+    let most = further-most (length plan.logged + length plan.revoked) in
+    let area = (fit.ring_lacks.0 refl).0 in
+    let ring : FitsRing r plan = omega arith in
+    record {
+      area_lacks = (λ e. absurd cc, λ lacks. absurd (lacks area));
+      ring_lacks = (λ e. absurd cc, λ lacks. absurd (lacks.1 ring));
+    }
 
 module _ {P : Type 0} {G : Ghosts P} where
   same-parts : (s : QueueSide P FileEntry G) → HaveSameParts s s

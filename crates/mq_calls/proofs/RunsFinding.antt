@@ -10,20 +10,20 @@ use Rattle.mq_drive.specs.declared.port.Port.{Ghosts}
 use Rattle.mq_exec.specs.Outcomes.{Answers, IsDone}
 use Rattle.mq_exec.specs.declared.outcome.Done.{Done as Carried}
 use Rattle.mq_exec.specs.declared.outcome.Outcome.TheVariants.{Done}
-use Rattle.mq_files.specs.Group.{file_group}
-use Rattle.mq_files.specs.declared.entry.FileEntry.{FileEntry}
+use Rattle.mq_file_entries.specs.Group.{file_group}
+use Rattle.mq_file_entries.specs.declared.entry.FileEntry.{FileEntry}
 use Rattle.mq_inodes.specs.Fits.{Agrees, IsPossible}
 use Rattle.mq_inodes.specs.Pages.{held_pages, page_in}
 use Rattle.mq_inodes.proofs.PagesLifting.{laid-agrees}
 use Rattle.mq_pages.specs.Held.{Cells, cell_of}
 use Rattle.mq_pages.specs.declared.page.PageCell.{PageCell}
-use Rattle.mq_rules.specs.Groups.{GroupView}
-use Rattle.mq_rules.specs.Rule.{DeskState, IsPage, geometry_of, map_now, shape_of}
-use Rattle.mq_rules.specs.Values.{Values}
-use Rattle.mq_rules.proofs.RuleStaying.{good_now}
-use Rattle.mq_rules.proofs.Meaning.{laws}
-use Rattle.mq_side.specs.declared.root.Root.{Root}
-use Rattle.mq_side.specs.declared.side.QueueSide.{QueueSide}
+use Rattle.mq_desk_laws.specs.Groups.{GroupView}
+use Rattle.mq_desk_laws.specs.Rule.{DeskState, IsPage, geometry_of, map_now, shape_of}
+use Rattle.mq_desk_laws.specs.Values.{Values}
+use Rattle.mq_desk_laws.proofs.RuleStaying.{good_now}
+use Rattle.mq_desk_laws.proofs.Meaning.{laws}
+use Rattle.mq_queue_side.specs.declared.root.Root.{Root}
+use Rattle.mq_queue_side.specs.declared.side.QueueSide.{QueueSide}
 use Rattle.mq_tree.specs.Laid.{IsLaid}
 use Rattle.mq_tree.specs.Volume.{Volume}
 use Rattle.mq_tree.specs.declared.request.Request.{Request}

@@ -10,11 +10,11 @@ use Rattle.mq_checkpoint.specs.declared.refusal.CheckpointRefusal.TheVariants as
 use Rattle.mq_drive.specs.Steps.{PortFault}
 use Rattle.mq_drive.specs.declared.port.Port.{Ghosts}
 use Rattle.mq_exec.specs.declared.outcome.Done.{Done}
-use Rattle.mq_files.specs.Entries.{Changes, freed_by, written_by}
-use Rattle.mq_files.specs.Group.{file_group}
-use Rattle.mq_files.specs.Plans.{DoneOn, planned_by}
-use Rattle.mq_files.specs.declared.entry.FileEntry.{FileEntry}
-use Rattle.mq_files.specs.declared.entry.Reads.{Reads as WordsRead}
+use Rattle.mq_file_entries.specs.Entries.{Changes, freed_by, written_by}
+use Rattle.mq_file_entries.specs.Group.{file_group}
+use Rattle.mq_file_entries.specs.Plans.{DoneOn, planned_by}
+use Rattle.mq_file_entries.specs.declared.entry.FileEntry.{FileEntry}
+use Rattle.mq_file_entries.specs.declared.entry.Reads.{Reads as WordsRead}
 use Rattle.mq_journal.specs.Draining.{report_of}
 use Rattle.mq_journal.specs.Numbers.{Seat, Shared, WasCut, reported}
 use Rattle.mq_ledger.specs.KnownJournal.{front}
@@ -22,17 +22,17 @@ use Rattle.mq_pages.specs.declared.page.Write.{Write}
 use Rattle.mq_revoke.specs.Placed.{Placed}
 use Rattle.mq_revoke.specs.Placing.{IsPlacement}
 use Rattle.mq_revoke.specs.declared.placement.Planned.{Planned}
-use Rattle.mq_rules.specs.Rule.{IsSide, core_of, history_of, map_now, start_of}
-use Rattle.mq_side.specs.Commits.{NumberedCommit}
-use Rattle.mq_side.specs.Drained.{DrainCause, Drains}
-use Rattle.mq_side.specs.Side.{side_state}
-use Rattle.mq_side.specs.Stored.{FitIs, rows_of}
-use Rattle.mq_side.specs.declared.answers.Cause.{Cause}
-use Rattle.mq_side.specs.declared.answers.Cause.TheVariants.{Stopped}
-use Rattle.mq_side.specs.declared.answers.Cause.TheVariants as cause
-use Rattle.mq_side.specs.declared.answers.Fit.TheVariants.{Area}
-use Rattle.mq_side.specs.declared.answers.Why.{Why}
-use Rattle.mq_side.specs.declared.side.QueueSide.{QueueSide}
+use Rattle.mq_desk_laws.specs.Rule.{IsSide, core_of, history_of, map_now, start_of}
+use Rattle.mq_queue_side.specs.Commits.{NumberedCommit}
+use Rattle.mq_queue_side.specs.Drained.{DrainCause, Drains}
+use Rattle.mq_queue_side.specs.Side.{side_state}
+use Rattle.mq_queue_side.specs.Stored.{FitIs, rows_of}
+use Rattle.mq_queue_side.specs.declared.answers.Cause.{Cause}
+use Rattle.mq_queue_side.specs.declared.answers.Cause.TheVariants.{Stopped}
+use Rattle.mq_queue_side.specs.declared.answers.Cause.TheVariants as cause
+use Rattle.mq_queue_side.specs.declared.answers.Fit.TheVariants.{Area}
+use Rattle.mq_queue_side.specs.declared.answers.Why.{Why}
+use Rattle.mq_queue_side.specs.declared.side.QueueSide.{QueueSide}
 use Rattle.mq_tree.specs.declared.request.Reply.{Reply}
 use Rattle.mq_tree.specs.declared.request.Request.{Request}
 use Rattle.mq_turns.specs.Meaning.{newest}
@@ -84,19 +84,22 @@ module _ {P : Type 0} {G : Ghosts P} where
   -- The session drew its group's entry at this number, which is above all that it had seen. The group
   -- writes no more than a transaction may; it was placed by the front and by the base that the call was
   -- answered; and this alone was reported.
-  pub record Commits (g : Geometry) (c : Call) (replies : List Reply) (at : ℕ) (r : Report) (old new : Seat P FileEntry G) : Type 0 where
+  pub record Commits (g : Geometry) (c : Call) (replies : List Reply) (at : ℕ) (r : Report)
+      (old new : Seat P FileEntry G) : Type 0 where
     pub entry : FileEntry
     pub is : IsOfCall c replies entry
     pub drawn : new.drawn ≡ (at, entry) ∷ old.drawn
     pub read : new.read ≡ old.read
     pub above : old.seen < at
     pub few : length (written_by entry) ≤ write_limit g
-    pub answers : new.reading.answers ≡ Base entry.reads.base ∷ Front entry.reads.front ∷ old.reading.answers
+    pub answers : new.reading.answers
+        ≡ Base entry.reads.base ∷ Front entry.reads.front ∷ old.reading.answers
     pub charged : new.reading.charged ≡ reported c.session r ∷ old.reading.charged
 
   -- The session read its group's entry at this number, the newest at that moment and not below any that it
   -- had seen. Nothing was reported.
-  pub record ReadsGroup (c : Call) (replies : List Reply) (at : ℕ) (e : FileEntry) (old new : Seat P FileEntry G) : Type 0 where
+  pub record ReadsGroup (c : Call) (replies : List Reply) (at : ℕ) (e : FileEntry)
+      (old new : Seat P FileEntry G) : Type 0 where
     pub is : IsOfCall c replies e
     pub known : Shared P FileEntry G
     pub number : newest known ≡ at
@@ -107,14 +110,16 @@ module _ {P : Type 0} {G : Ghosts P} where
     pub charged : new.reading.charged ≡ old.reading.charged
 
   -- It read a group that neither writes nor frees.
-  pub record ReadsOnly (c : Call) (replies : List Reply) (at : ℕ) (old new : Seat P FileEntry G) : Type 0 where
+  pub record ReadsOnly (c : Call) (replies : List Reply) (at : ℕ)
+      (old new : Seat P FileEntry G) : Type 0 where
     pub entry : FileEntry
     pub reads : ReadsGroup c replies at entry old new
     pub writes : written_by entry ≡ []
     pub frees : freed_by entry ≡ []
 
   -- The group is a commit in the history at the number, and rung; or it is a read there.
-  abbrev pub Acts : Geometry → Call → (at : ℕ) → (drew : Bool) → List Reply → Seat P FileEntry G → Seat P FileEntry G → Type 0
+  abbrev pub Acts : Geometry → Call → (at : ℕ) → (drew : Bool) → List Reply → Seat P FileEntry G
+      → Seat P FileEntry G → Type 0
   Acts g c at true replies old new = Commits g c replies at (report.Sent at) old new
   Acts g c at false replies old new = ReadsOnly c replies at old new
 
@@ -138,7 +143,8 @@ module _ {P : Type 0} {G : Ghosts P} where
     pub charged : new.reading.charged ≡ old.reading.charged
 
   -- It read a group that writes more blocks than a transaction may.
-  pub record IsTooLarge (g : Geometry) (c : Call) (count limit : ℕ) (old new : Seat P FileEntry G) : Type 0 where
+  pub record IsTooLarge (g : Geometry) (c : Call) (count limit : ℕ)
+      (old new : Seat P FileEntry G) : Type 0 where
     pub replies : List Reply
     pub at : ℕ
     pub entry : FileEntry
@@ -151,8 +157,13 @@ module _ {P : Type 0} {G : Ghosts P} (state : P → PortState) (faults : P → L
   -- By what was known since then, a side that the session held is what lies there; it had kept the failure
   -- that is named, or its drain came to this refusal.
   pub data IsCaused (v : Seat P FileEntry G) (q : ℕ) : Cause → Type 0 where
-    kept : {tx : ℕ} {why : Why} (K : Shared P FileEntry G) (s : QueueSide P FileEntry G) → IsKnownFrom state faults file_group v K → IsSide (file_values state faults) file_group q K s → s.kept ≡ Some (tx, why) → IsCaused v q (Stopped tx why)
-    drained : {c : Cause} (K : Shared P FileEntry G) (s after : QueueSide P FileEntry G) → IsKnownFrom state faults file_group v K → IsSide (file_values state faults) file_group q K s → Drains (side_state state faults s) (Err c) (side_state state faults after) → DrainCause (Err c) (faults s.pmr.port) (faults after.pmr.port) → IsCaused v q c
+    kept : {tx : ℕ} {why : Why} (K : Shared P FileEntry G) (s : QueueSide P FileEntry G)
+        → IsKnownFrom state faults file_group v K → IsSide (file_values state faults) file_group q K s
+        → s.kept ≡ Some (tx, why) → IsCaused v q (Stopped tx why)
+    drained : {c : Cause} (K : Shared P FileEntry G) (s after : QueueSide P FileEntry G)
+        → IsKnownFrom state faults file_group v K → IsSide (file_values state faults) file_group q K s
+        → Drains (side_state state faults s) (Err c) (side_state state faults after)
+        → DrainCause (Err c) (faults s.pmr.port) (faults after.pmr.port) → IsCaused v q c
 
   -- A port's refusal before the group drew a number. It is charged to the port of the queue, and nothing
   -- else is.
@@ -180,22 +191,28 @@ module _ {P : Type 0} {G : Ghosts P} (state : P → PortState) (faults : P → L
 
   -- Why a group that was run on its pages is refused, with the number that it had drawn, and what that
   -- leaves.
-  pub data IsTurnedDown (g : Geometry) (c : Call) (old new : Seat P FileEntry G) : CallCause → Option ℕ → Type 0 where
+  pub data IsTurnedDown (g : Geometry) (c : Call) (old new : Seat P FileEntry G) : CallCause → Option ℕ
+      → Type 0 where
     memory : KeepsAll old new → IsTurnedDown g c old new refused.OutOfMemory None
-    too_large : {count limit : ℕ} → IsTooLarge g c count limit old new → IsTurnedDown g c old new (refused.TooLarge count limit) None
-    before : {why : Cause} → Refuses c.session why old new → IsTurnedDown g c old new (refused.Drive why) None
+    too_large : {count limit : ℕ} → IsTooLarge g c count limit old new
+        → IsTurnedDown g c old new (refused.TooLarge count limit) None
+    before : {why : Cause} → Refuses c.session why old new
+        → IsTurnedDown g c old new (refused.Drive why) None
     cut : {at : ℕ} → IsCut g c at old new → IsTurnedDown g c old new (refused.Drive cause.Off) (Some at)
 
   -- ---- a call whose plan did not fit the journal area
 
   -- what the rule of placing asks of writes, on the map and the transactions of what is known
   abbrev pub planned_at : Shared P FileEntry G → List Write → List Planned
-  planned_at K writes = map (planned_by (start_of (file_values state faults) file_group K.opening) K.opening.base (history_of (file_values state faults) file_group K)) writes
+  planned_at K writes =
+      map (planned_by (start_of (file_values state faults) file_group K.opening) K.opening.base
+      (history_of (file_values state faults) file_group K)) writes
 
   -- On the map at the newest number of what was known, the group of the call comes to this: it changes
   -- something, and writes no more than a transaction may. The rule places what it writes so, by a front and
   -- a base that had been read.
-  pub record IsPlacedAt (g : Geometry) (c : Call) (K : Shared P FileEntry G) (reads : WordsRead) (plan : Placed) : Type 0 where
+  pub record IsPlacedAt (g : Geometry) (c : Call) (K : Shared P FileEntry G) (reads : WordsRead)
+      (plan : Placed) : Type 0 where
     pub done : Done
     pub does : DoneOn g c.session (map_now (file_values state faults) file_group K) c.requests done
     pub changes : Changes done.writes.items done.frees.items
@@ -223,7 +240,7 @@ module _ {P : Type 0} {G : Ghosts P} (state : P → PortState) (faults : P → L
     pub keeps : KeepsAll old new
     pub lacks : LacksArea g c old new
 
-  -- So a checkpoint was made, and has raised the base.
+  -- So a checkpoint was made, and has brought the base to this number.
   pub record MadeRoom (g : Geometry) (c : Call) (old new : Seat P FileEntry G) : Type 0 where
     pub between : Seat P FileEntry G
     pub full : IsAreaFull g c old between
@@ -236,19 +253,24 @@ module _ {P : Type 0} {G : Ghosts P} (state : P → PortState) (faults : P → L
     again : {new : Seat P FileEntry G} → MadeRoom g c old new → Begins g c old new
 
   -- The group is a commit in the history at the number, and rung; or it is a read there.
-  pub record HasActed (g : Geometry) (c : Call) (at : ℕ) (drew : Bool) (replies : List Reply) (old new : Seat P FileEntry G) : Type 0 where
+  pub record HasActed (g : Geometry) (c : Call) (at : ℕ) (drew : Bool) (replies : List Reply)
+      (old new : Seat P FileEntry G) : Type 0 where
     pub from : Seat P FileEntry G
     pub begins : Begins g c old from
     pub acts : Acts g c at drew replies from new
 
   -- The group was run at once or after a checkpoint, and nothing was waited for after it.
-  pub record HasNotWaited (g : Geometry) (c : Call) (at : ℕ) (drew : Bool) (old new : Seat P FileEntry G) : Type 0 where
+  pub record HasNotWaited (g : Geometry) (c : Call) (at : ℕ) (drew : Bool)
+      (old new : Seat P FileEntry G) : Type 0 where
     pub from : Seat P FileEntry G
     pub begins : Begins g c old from
     pub waits : WaitsForNone c.session at drew from new
 
   -- Why `fatomic` refuses a group, with the number that the group had drawn, and what that leaves: the
   -- group was turned down; or its plan did not fit the journal area, and the checkpoint was refused.
-  pub data IsRefused (g : Geometry) (c : Call) (old new : Seat P FileEntry G) : CallCause → Option ℕ → Type 0 where
-    turned_down : {why : CallCause} {drawn : Option ℕ} {from : Seat P FileEntry G} → Begins g c old from → IsTurnedDown g c from new why drawn → IsRefused g c old new why drawn
-    no_room : (why : CheckpointRefusal) {between : Seat P FileEntry G} → IsAreaFull g c old between → HasRefused state faults file_group why between new → IsRefused g c old new (cause_of why) None
+  pub data IsRefused (g : Geometry) (c : Call) (old new : Seat P FileEntry G) : CallCause → Option ℕ
+      → Type 0 where
+    turned_down : {why : CallCause} {drawn : Option ℕ} {from : Seat P FileEntry G} → Begins g c old from
+        → IsTurnedDown g c from new why drawn → IsRefused g c old new why drawn
+    no_room : (why : CheckpointRefusal) {between : Seat P FileEntry G} → IsAreaFull g c old between
+        → HasRefused state faults file_group why between new → IsRefused g c old new (cause_of why) None

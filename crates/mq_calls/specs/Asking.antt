@@ -2,7 +2,7 @@
 use Rattle.std.specs.Prelude.{◌≡◌, ◌<◌, ℕ, true, false, List, length, Option, None}
 use Rattle.std.specs.List.{AllWithin, HoldsAt}
 use Rattle.mq_drive.specs.declared.port.Port.{Ghosts}
-use Rattle.mq_files.specs.declared.entry.FileEntry.{FileEntry}
+use Rattle.mq_file_entries.specs.declared.entry.FileEntry.{FileEntry}
 use Rattle.mq_journal.specs.Numbers.{Seat}
 use Rattle.mq_tree.specs.Requests.{is_change}
 use Rattle.mq_tree.specs.declared.request.Request.{Request}
@@ -23,6 +23,8 @@ refusal_at index = record { cause = Changes index; drawn = None }
 
 module _ {P : Type 0} {G : Ghosts P} where
   -- Why `ask` refuses a group, with the number that it has drawn, which is none, and what that leaves.
-  pub data IsNotAnswered (requests : List Request) (old new : Seat P FileEntry G) : CallCause → Option ℕ → Type 0 where
+  pub data IsNotAnswered (requests : List Request) (old new : Seat P FileEntry G) : CallCause → Option ℕ
+      → Type 0 where
     memory : KeepsAll old new → IsNotAnswered requests old new OutOfMemory None
-    changes : {index : ℕ} → IsFirstChange requests index → new ≡ old → IsNotAnswered requests old new (Changes index) None
+    changes : {index : ℕ} → IsFirstChange requests index → new ≡ old
+        → IsNotAnswered requests old new (Changes index) None

@@ -6,8 +6,8 @@ use Rattle.mq_blocks.specs.declared.geometry.Geometry.{Geometry}
 use Rattle.mq_drive.specs.Steps.{PortFault}
 use Rattle.mq_drive.specs.declared.port.Port.{Ghosts}
 use Rattle.mq_exec.specs.declared.outcome.Done.{Done}
-use Rattle.mq_files.specs.Plans.{IsEntryOf}
-use Rattle.mq_files.specs.declared.entry.FileEntry.{FileEntry}
+use Rattle.mq_file_entries.specs.Plans.{IsEntryOf}
+use Rattle.mq_file_entries.specs.declared.entry.FileEntry.{FileEntry}
 use Rattle.mq_journal.specs.Numbers.{Seat, Shared, Start}
 use Rattle.mq_pages.specs.Held.{HeldCells}
 use Rattle.mq_tree.specs.declared.request.Request.{Request}
@@ -19,7 +19,8 @@ use Rattle.mq_calls.specs.Sessions.{HasCalled}
 use Rattle.mq_calls.specs.declared.asked.Asked.{Asked}
 
 abbrev pub call_by : (session calls : ℕ) → (durable : Bool) → List Request → Call
-call_by session calls durable requests = record { session = session; count = calls; durable = durable; requests = requests }
+call_by session calls durable requests =
+    record { session = session; count = calls; durable = durable; requests = requests }
 
 abbrev pub call_of : Asked → Call
 call_of a = call_by a.queue a.calls a.durable a.requests.now
@@ -38,7 +39,9 @@ module _ {P : Type 0} {G : Ghosts P} where
     pub called : HasCalled a.calls v
 
   -- It holds the pages on which the call's group is done, and no other turn.
-  pub record IsHolding (state : P → PortState) (faults : P → List PortFault) (o : Start P FileEntry G) (g : Geometry) (a : Asked) (cells : HeldCells) (v : Seat P FileEntry G) (done : Done) : Type 0 where
+  pub record IsHolding (state : P → PortState) (faults : P → List PortFault) (o : Start P FileEntry G)
+      (g : Geometry) (a : Asked) (cells : HeldCells) (v : Seat P FileEntry G)
+      (done : Done) : Type 0 where
     pub asks : IsAsking g a v
     pub pages : HoldsOnlyPages (files state faults) o cells.cells v
     pub seen : IsSeen (files state faults) v

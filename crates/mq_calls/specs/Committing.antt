@@ -7,12 +7,12 @@ use Rattle.mq_blocks.specs.declared.geometry.Geometry.{Geometry}
 use Rattle.mq_drive.specs.Steps.{PortFault}
 use Rattle.mq_drive.specs.declared.port.Port.{Ghosts}
 use Rattle.mq_exec.specs.declared.outcome.Done.{Done}
-use Rattle.mq_files.specs.Entries.{tx_of}
-use Rattle.mq_files.specs.Group.{file_group}
-use Rattle.mq_files.specs.Laws.{blocks_in}
-use Rattle.mq_files.specs.Plans.{planned_with}
-use Rattle.mq_files.specs.declared.entry.FileEntry.{FileEntry}
-use Rattle.mq_files.specs.declared.entry.Reads.{Reads as WordsRead}
+use Rattle.mq_file_entries.specs.Entries.{tx_of}
+use Rattle.mq_file_entries.specs.Group.{file_group}
+use Rattle.mq_file_entries.specs.Laws.{blocks_in}
+use Rattle.mq_file_entries.specs.Plans.{planned_with}
+use Rattle.mq_file_entries.specs.declared.entry.FileEntry.{FileEntry}
+use Rattle.mq_file_entries.specs.declared.entry.Reads.{Reads as WordsRead}
 use Rattle.mq_journal.specs.Draining.{report_of}
 use Rattle.mq_journal.specs.Numbers.{HasPlace, HoldsSide, MayCome, Seat, ShowsReport, Start, reported}
 use Rattle.mq_pages.specs.Held.{Cells}
@@ -20,10 +20,10 @@ use Rattle.mq_pages.specs.declared.page.Write.{Write}
 use Rattle.mq_revoke.specs.Guard.{placed_of}
 use Rattle.mq_revoke.specs.Placed.{Placed}
 use Rattle.mq_revoke.specs.Placing.{IsPlacement}
-use Rattle.mq_side.specs.Commits.{IsPlanOf, commit_of_tx}
-use Rattle.mq_side.specs.Stored.{FitIs, rows_of}
-use Rattle.mq_side.specs.declared.answers.Fit.TheVariants.{Area}
-use Rattle.mq_side.specs.declared.side.QueueSide.{QueueSide}
+use Rattle.mq_queue_side.specs.Commits.{IsPlanOf, commit_of_tx}
+use Rattle.mq_queue_side.specs.Stored.{FitIs, rows_of}
+use Rattle.mq_queue_side.specs.declared.answers.Fit.TheVariants.{Area}
+use Rattle.mq_queue_side.specs.declared.side.QueueSide.{QueueSide}
 use Rattle.mq_turns.specs.Desk.{Follows, slot_of}
 use Rattle.mq_turns.specs.Lists.{tick, times}
 use Rattle.mq_turns.specs.declared.rule.MarkAnswer.TheVariants.{Base, Front}
@@ -42,7 +42,8 @@ use Rattle.mq_calls.specs.declared.committing.Ready.{Ready}
 
 -- the blocks that a group writes are placed by what was read, on the pages in these cells
 abbrev pub IsPlacedOn : Geometry → (queue : ℕ) → WordsRead → Cells → List Write → Placed → Type 0
-IsPlacedOn g queue reads cells writes plan = IsPlacement g queue reads.front reads.base (map (planned_with cells) writes) plan
+IsPlacedOn g queue reads cells writes plan =
+    IsPlacement g queue reads.front reads.base (map (planned_with cells) writes) plan
 
 module _ {P : Type 0} {G : Ghosts P} where
   -- The session has read words and nothing more: what it holds, drew, read and reported is as before.
@@ -80,17 +81,21 @@ module _ {P : Type 0} {G : Ghosts P} where
 module _ {P : Type 0} {G : Ghosts P} (state : P → PortState) (faults : P → List PortFault) where
   -- It holds the pages of these cells and the side of its queue, and no other turn; and something may be
   -- known by now.
-  pub record HoldsCommit (o : Start P FileEntry G) (q : ℕ) (cells : Cells) (s : QueueSide P FileEntry G) (v : Seat P FileEntry G) : Type 0 where
+  pub record HoldsCommit (o : Start P FileEntry G) (q : ℕ) (cells : Cells) (s : QueueSide P FileEntry G)
+      (v : Seat P FileEntry G) : Type 0 where
     pub pages : HoldsPages (files state faults) o cells v
     pub side : HoldsSide state faults file_group o q s v
     pub only : (k : ℕ) → times k v.held ≡ times k cells + tick (slot_of o (Side q)) k
     pub seen : IsSeen (files state faults) v
 
   -- The commit is prepared, and the entry of the group may be drawn.
-  pub record IsPrepared (o : Start P FileEntry G) (c : Call) (done : Done) (plan : Placed) (old : Seat P FileEntry G) (s : QueueSide P FileEntry G) (v : Seat P FileEntry G) (ready : Ready) : Type 0 where
+  pub record IsPrepared (o : Start P FileEntry G) (c : Call) (done : Done) (plan : Placed)
+      (old : Seat P FileEntry G) (s : QueueSide P FileEntry G) (v : Seat P FileEntry G)
+      (ready : Ready) : Type 0 where
     pub is : IsEntryFor c done ready.entry
     pub placed : ready.entry.placed ≡ plan
-    pub answers : v.reading.answers ≡ Base ready.entry.reads.base ∷ Front ready.entry.reads.front ∷ old.reading.answers
+    pub answers : v.reading.answers
+        ≡ Base ready.entry.reads.base ∷ Front ready.entry.reads.front ∷ old.reading.answers
     pub plan_is : (homes : ℕ) × IsPlanOf homes (blocks_in done.writes.items) plan
     pub may : MayCome state faults file_group o c.session ready.entry v
     pub follows : Follows (files state faults) ready.entry v
@@ -102,18 +107,24 @@ module _ {P : Type 0} {G : Ghosts P} (state : P → PortState) (faults : P → L
   -- Why the side of the queue has no room for what is placed so: by this base it does not fit the journal
   -- area; or the side shows what will be reported of its port, and had come to it in hand. No memory is
   -- taken.
-  abbrev pub HasNoRoom : (queue base : ℕ) → Placed → QueueSide P FileEntry G → Seat P FileEntry G → Obstacle → Type 0
+  abbrev pub HasNoRoom : (queue base : ℕ) → Placed → QueueSide P FileEntry G → Seat P FileEntry G
+      → Obstacle → Type 0
   HasNoRoom q base plan s v obstacle.Memory = ⊥
-  HasNoRoom q base plan s v obstacle.Area = FitIs (area_of s.pmr.geometry) base (rows_of s.stored.items) (state s.pmr.port) plan Area
-  HasNoRoom q base plan s v (obstacle.Drive cause) = ShowsReport state faults file_group q (report_of cause) s v × IsCaused state faults v q cause
+  HasNoRoom q base plan s v obstacle.Area =
+      FitIs (area_of s.pmr.geometry) base (rows_of s.stored.items) (state s.pmr.port) plan Area
+  HasNoRoom q base plan s v (obstacle.Drive cause) =
+      ShowsReport state faults file_group q (report_of cause) s v × IsCaused state faults v q cause
 
   -- Why the commit of the call is not prepared, and what stands behind that: the plan of its group does not
   -- fit the journal area of the queue; or the side shows what will be reported of its port, and had come to
   -- it in hand.
-  abbrev pub IsObstacle : Geometry → Call → (old : Seat P FileEntry G) → QueueSide P FileEntry G → Seat P FileEntry G → Obstacle → Type 0
+  abbrev pub IsObstacle : Geometry → Call → (old : Seat P FileEntry G) → QueueSide P FileEntry G
+      → Seat P FileEntry G → Obstacle → Type 0
   IsObstacle g c old s v obstacle.Memory = Unit {0}
   IsObstacle g c old s v obstacle.Area = LacksArea state faults g c old v
-  IsObstacle g c old s v (obstacle.Drive cause) = ShowsReport state faults file_group c.session (report_of cause) s v × IsCaused state faults v c.session cause
+  IsObstacle g c old s v (obstacle.Drive cause) =
+      ShowsReport state faults file_group c.session (report_of cause) s v
+      × IsCaused state faults v c.session cause
 
   -- The side shows what will be reported of its port.
   abbrev pub ShowsObstacle : (queue : ℕ) → QueueSide P FileEntry G → Seat P FileEntry G → Obstacle → Type 0

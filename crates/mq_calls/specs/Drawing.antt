@@ -2,7 +2,7 @@
 use Rattle.std.specs.Prelude.{◌≡◌, ◌<◌, ◌≤◌, ℕ, List, [], ◌∷◌}
 use Rattle.mq_blocks.specs.declared.geometry.Geometry.{Geometry}
 use Rattle.mq_drive.specs.declared.port.Port.{Ghosts}
-use Rattle.mq_files.specs.declared.entry.FileEntry.{FileEntry}
+use Rattle.mq_file_entries.specs.declared.entry.FileEntry.{FileEntry}
 use Rattle.mq_journal.specs.Numbers.{Seat, reported}
 use Rattle.mq_tree.specs.declared.request.Reply.{Reply}
 use Rattle.mq_turns.specs.declared.rule.Report.{Report}
@@ -32,5 +32,7 @@ module _ {P : Type 0} {G : Ghosts P} where
 
   -- what a group that changes something came to: it is a commit, and rung, at the newest number that the
   -- session knows of; and it is not known to be done
-  abbrev pub IsCommitted : Geometry → Call → List Reply → (at : ℕ) → Seat P FileEntry G → Seat P FileEntry G → Type 0
-  IsCommitted g c replies at old new = Commits g c replies at (Sent at) old new × (new.seen ≡ at) × IsUnderWay c.session at new
+  abbrev pub IsCommitted : Geometry → Call → List Reply → (at : ℕ) → Seat P FileEntry G
+      → Seat P FileEntry G → Type 0
+  IsCommitted g c replies at old new =
+      Commits g c replies at (Sent at) old new × (new.seen ≡ at) × IsUnderWay c.session at new

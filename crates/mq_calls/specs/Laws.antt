@@ -7,18 +7,18 @@ use Rattle.mq_blocks.specs.declared.geometry.Geometry.{Geometry}
 use Rattle.mq_drive.specs.Steps.{PortFault}
 use Rattle.mq_drive.specs.declared.port.Port.{Ghosts}
 use Rattle.mq_exec.specs.declared.outcome.Done.{Done}
-use Rattle.mq_files.specs.Plans.{DoneOn}
-use Rattle.mq_files.specs.declared.entry.FileEntry.{FileEntry}
+use Rattle.mq_file_entries.specs.Plans.{DoneOn}
+use Rattle.mq_file_entries.specs.declared.entry.FileEntry.{FileEntry}
 use Rattle.mq_inodes.specs.Pages.{held_pages}
 use Rattle.mq_journal.specs.Machine.{journal}
 use Rattle.mq_journal.specs.Numbers.{Draws, Seat, Start}
 use Rattle.mq_pages.specs.Held.{Cells, cell_of}
 use Rattle.mq_pages.specs.declared.page.PageCell.{PageCell}
-use Rattle.mq_rules.specs.Groups.{GroupView}
-use Rattle.mq_rules.specs.Rule.{DeskState, IsPage, map_now, numbered}
-use Rattle.mq_rules.specs.Values.{Values}
-use Rattle.mq_side.specs.Commits.{NumberedCommit}
-use Rattle.mq_side.specs.declared.side.QueueSide.{QueueSide}
+use Rattle.mq_desk_laws.specs.Groups.{GroupView}
+use Rattle.mq_desk_laws.specs.Rule.{DeskState, IsPage, map_now, numbered}
+use Rattle.mq_desk_laws.specs.Values.{Values}
+use Rattle.mq_queue_side.specs.Commits.{NumberedCommit}
+use Rattle.mq_queue_side.specs.declared.side.QueueSide.{QueueSide}
 use Rattle.mq_tree.specs.Requests.{is_change}
 use Rattle.mq_tree.specs.declared.request.Request.{Request}
 use Rattle.mq_turns.specs.Chairs.{giving, holding}
@@ -36,7 +36,8 @@ module _ {Q R E : Type 0} (μ : Meaning PageCell Q R E) where
   -- whatever is known by now, each cell is what the machine says of its page
   abbrev pub CellsAreCurrent : Type 0
   CellsAreCurrent =
-      (o : Opening PageCell Q R) (cells : Cells) (v : ChairView PageCell Q R E) (K : Known PageCell Q R E) (b : ℕ) (c : PageCell)
+      (o : Opening PageCell Q R) (cells : Cells) (v : ChairView PageCell Q R E)
+      (K : Known PageCell Q R E) (b : ℕ) (c : PageCell)
       → v.opening ≡ Some o
       → HoldsPages μ o cells v
       → Sees μ v K
@@ -46,7 +47,8 @@ module _ {Q R E : Type 0} (μ : Meaning PageCell Q R E) where
   -- the pages stay held while the session takes a turn with another slot
   abbrev pub PagesStayAtTake : Type 0
   PagesStayAtTake =
-      (o : Opening PageCell Q R) (cells : Cells) (v : ChairView PageCell Q R E) (k : ℕ) (K : Known PageCell Q R E)
+      (o : Opening PageCell Q R) (cells : Cells) (v : ChairView PageCell Q R E) (k : ℕ)
+      (K : Known PageCell Q R E)
       → All (λ b. b ≢ k) (blocks_of cells)
       → HoldsPages μ o cells v
       → HoldsPages μ o cells (holding k K v)
@@ -62,7 +64,8 @@ module _ {Q R E : Type 0} (μ : Meaning PageCell Q R E) where
   -- and at a step of its own that is about other turns, which it then knows of anew
   abbrev pub PagesStayAtStep : Type 0
   PagesStayAtStep =
-      (o : Opening PageCell Q R) (cells : Cells) (v w : ChairView PageCell Q R E) (about : ℕ → Bool) (L : Known PageCell Q R E)
+      (o : Opening PageCell Q R) (cells : Cells) (v w : ChairView PageCell Q R E) (about : ℕ → Bool)
+      (L : Known PageCell Q R E)
       → All (λ b. about b ≡ false) (blocks_of cells)
       → w.held ≡ refreshed about L v.held
       → HoldsPages μ o cells v
@@ -72,7 +75,8 @@ module _ {Q R E : Type 0} (μ : Meaning PageCell Q R E) where
   -- them
   abbrev pub PagesFollowStep : Type 0
   PagesFollowStep =
-      (o : Opening PageCell Q R) (cells new : Cells) (v w : ChairView PageCell Q R E) (about : ℕ → Bool) (L : Known PageCell Q R E)
+      (o : Opening PageCell Q R) (cells new : Cells) (v w : ChairView PageCell Q R E) (about : ℕ → Bool)
+      (L : Known PageCell Q R E)
       → AllZip (IsAfterStep μ about L) cells new
       → w.held ≡ refreshed about L v.held
       → HoldsPages μ o cells v
@@ -96,12 +100,14 @@ module _ {Q R E : Type 0} (values : Values Q R E) (group : GroupView E) where
       → held_pages cells b ≡ Some page
       → map_now values group K b ≡ page
 
-module _ {P : Type 0} {G : Ghosts P} (state : P → PortState) (faults : P → List PortFault) (o : Start P FileEntry G) where
+module _ {P : Type 0} {G : Ghosts P} (state : P → PortState) (faults : P → List PortFault)
+    (o : Start P FileEntry G) where
   -- where the session holds the pages, a group that is done on them is done on the map at the newest
   -- number, whatever is known by now
   abbrev pub DoneGroupsStand : Type 0
   DoneGroupsStand =
-      (g : Geometry) (cells : Cells) (v : Seat P FileEntry G) (session : ℕ) (requests : List Request) (done : Done)
+      (g : Geometry) (cells : Cells) (v : Seat P FileEntry G) (session : ℕ) (requests : List Request)
+      (done : Done)
       → v.opening ≡ Some o
       → geometry_at state faults o ≡ g
       → HoldsPages (files state faults) o cells v
@@ -116,7 +122,8 @@ ReadingGroupsChangeNothing =
     → DoneOn g session m requests done
     → (done.writes.items ≡ []) × (done.frees.items ≡ [])
 
-module _ {P E : Type 0} {G : Ghosts P} (state : P → PortState) (faults : P → List PortFault) (group : GroupView E) (s : QueueSide P E G) where
+module _ {P E : Type 0} {G : Ghosts P} (state : P → PortState) (faults : P → List PortFault)
+    (group : GroupView E) (s : QueueSide P E G) where
   -- Pages that a session holds when it draws a number stay held, each with the cell that the transaction of
   -- the entry makes of its own.
   abbrev pub DrawnPagesAreHeld : Type 0

@@ -5,7 +5,7 @@ use Rattle.mq_inodes.specs.Pages.{held_pages}
 use Rattle.mq_ledger.specs.declared.tx.Tx.{Tx}
 use Rattle.mq_pages.specs.Held.{Cells}
 use Rattle.mq_pages.specs.declared.page.Write.{Write}
-use Rattle.mq_rules.specs.Cells.{cell_after}
+use Rattle.mq_desk_laws.specs.Cells.{cell_after}
 
 -- the cells after a transaction
 abbrev pub cells_after : Tx → Cells → Cells

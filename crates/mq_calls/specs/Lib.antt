@@ -13,3 +13,4 @@ pub mod Leaving
 pub mod Laws
 pub mod Opening
 pub mod Mounting
+pub mod Helpers

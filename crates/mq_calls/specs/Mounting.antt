@@ -7,7 +7,7 @@ use Rattle.mq_blocks.specs.declared.geometry.Geometry.{Geometry}
 use Rattle.mq_drive.specs.Steps.{PortFault}
 use Rattle.mq_drive.specs.declared.port.Port.{Ghosts}
 use Rattle.mq_drive.specs.declared.port.Ports.{Ports}
-use Rattle.mq_files.specs.declared.entry.FileEntry.{FileEntry}
+use Rattle.mq_file_entries.specs.declared.entry.FileEntry.{FileEntry}
 use Rattle.mq_journal.specs.Numbers.{Start}
 use Rattle.mq_recover.specs.Drives.{DriveState, drive_of, view_over}
 use Rattle.mq_recover.specs.Standing.{StandsIn}
@@ -29,14 +29,17 @@ pub record HoldsVolume (g : Geometry) (d : DriveState) (v : Volume) : Type 0 whe
 -- memory ran out; or what stands on the ports holds no volume, and this is wrong at this block
 pub data IsNotMounted (g : Geometry) (d : DriveState) : MountRefusal → Type 0 where
   memory : IsNotMounted g d OutOfMemory
-  corrupt : {cause : CorruptCause} {b : ℕ} (s : Standing) → StandsIn g d s → IsCorrupt g s.blocks.items cause b → ((v : Volume) → HoldsVolume g d v → ⊥) → IsNotMounted g d (Corrupt cause b)
+  corrupt : {cause : CorruptCause} {b : ℕ} (s : Standing) → StandsIn g d s
+      → IsCorrupt g s.blocks.items cause b → ((v : Volume) → HoldsVolume g d v → ⊥)
+      → IsNotMounted g d (Corrupt cause b)
 
 module _ {P : Type 0} {G : Ghosts P} (state : P → PortState) (faults : P → List PortFault) where
   -- The desk was opened over what stands on the ports, which is what they have at home, and holds a volume.
   pub record IsMountedOver (g : Geometry) (ports : Ports P) (o : Start P FileEntry G) : Type 0 where
     pub standing : Standing
     pub stands : StandsIn g (drive_of state ports) standing
-    pub homes : (b : ℕ) → b < homes_of g → block_at standing.blocks.items b ≡ (view_over g (drive_of state ports)).home b
+    pub homes : (b : ℕ) → b < homes_of g
+        → block_at standing.blocks.items b ≡ (view_over g (drive_of state ports)).home b
     pub opened : IsOpenedOver state faults g ports standing o
     pub volume : Volume
     pub laid : IsLaid g (map_of g standing.blocks.items) volume

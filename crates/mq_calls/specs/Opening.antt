@@ -10,8 +10,8 @@ use Rattle.mq_drive.specs.Steps.{PortFault}
 use Rattle.mq_drive.specs.declared.port.Port.{Ghosts}
 use Rattle.mq_drive.specs.declared.port.Ports.{Ports}
 use Rattle.mq_drive.specs.declared.role.Role.TheVariants.{Queue}
-use Rattle.mq_files.specs.Group.{CarriesVolume, file_group}
-use Rattle.mq_files.specs.declared.entry.FileEntry.{FileEntry}
+use Rattle.mq_file_entries.specs.Group.{CarriesVolume, file_group}
+use Rattle.mq_file_entries.specs.declared.entry.FileEntry.{FileEntry}
 use Rattle.mq_journal.specs.Numbers.{Seat, Start}
 use Rattle.mq_ledger.specs.State.{IsStart}
 use Rattle.mq_ledger.specs.Written.{journal_entries}
@@ -20,8 +20,8 @@ use Rattle.mq_pages.specs.declared.page.PageCell.{PageCell}
 use Rattle.mq_recover.specs.Drives.{DriveState}
 use Rattle.mq_recover.specs.Recovery.{started}
 use Rattle.mq_recover.specs.declared.standing.Standing.{Standing}
-use Rattle.mq_rules.specs.Opening.{IsFresh}
-use Rattle.mq_side.specs.declared.side.QueueSide.{QueueSide}
+use Rattle.mq_desk_laws.specs.Opening.{IsFresh}
+use Rattle.mq_queue_side.specs.declared.side.QueueSide.{QueueSide}
 use Rattle.mq_tree.specs.Laid.{map_of}
 use Rattle.mq_turns.specs.Desk.{fresh}
 use Rattle.mq_calls.specs.Runs.{file_values, geometry_at}
@@ -45,7 +45,8 @@ pub record MayOpen (g : Geometry) (d : DriveState) (s : Standing) : Type 0 where
 
 -- the cell of a block that nothing has changed since the base
 abbrev pub first_cell : ℕ → Option (List ℕ) → PageCell
-first_cell base content = record { content = content; version = base; last_logged = base; home_version = base }
+first_cell base content =
+    record { content = content; version = base; last_logged = base; home_version = base }
 
 -- the cells of all home blocks
 abbrev pub first_cells : Geometry → List (Option (List ℕ)) → ℕ → List PageCell
@@ -75,7 +76,8 @@ module _ {P E : Type 0} {G : Ghosts P} (state : P → PortState) where
 
 module _ {P : Type 0} {G : Ghosts P} (state : P → PortState) (faults : P → List PortFault) where
   -- What a desk was opened with over these ports: the map in its cells, and the ports, each where it was.
-  pub record IsOpenedOver (g : Geometry) (ports : Ports P) (s : Standing) (o : Start P FileEntry G) : Type 0 where
+  pub record IsOpenedOver (g : Geometry) (ports : Ports P) (s : Standing)
+      (o : Start P FileEntry G) : Type 0 where
     pub base : o.base ≡ s.base
     pub pages : map (λ c. c.content) o.pages ≡ stored_map g s.blocks.items
     pub queues : map (λ q. q.pmr.port) o.sides ≡ ports.queues.items
@@ -96,7 +98,8 @@ pub record IsUncalled (i queue calls : ℕ) (wanted : List ℕ) : Type 0 where
 
 module _ {P : Type 0} {G : Ghosts P} where
   -- a session that has made no call
-  pub record IsNewSession (g : Geometry) (o : Start P FileEntry G) (i queue calls : ℕ) (wanted : List ℕ) (cells : HeldCells) (v : Seat P FileEntry G) : Type 0 where
+  pub record IsNewSession (g : Geometry) (o : Start P FileEntry G) (i queue calls : ℕ) (wanted : List ℕ)
+      (cells : HeldCells) (v : Seat P FileEntry G) : Type 0 where
     pub view_is : v ≡ fresh o i
     pub queue_is : queue ≡ i
     pub calls_are : calls ≡ 0

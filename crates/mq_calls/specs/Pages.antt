@@ -23,7 +23,8 @@ pub record AddsCells (blocks : List ℕ) (old new : Cells) : Type 0 where
 
 module _ {Q R E : Type 0} where
   -- the session takes turns of pages, the last taken first, and gives these pages back
-  abbrev pub taking_pages : List (ℕ × Known PageCell Q R E) → ChairView PageCell Q R E → ChairView PageCell Q R E
+  abbrev pub taking_pages : List (ℕ × Known PageCell Q R E) → ChairView PageCell Q R E
+      → ChairView PageCell Q R E
   taking_pages taken v = record v { hand = 0; held = taken ++ v.held }
 
   abbrev pub giving_pages : List ℕ → ChairView PageCell Q R E → ChairView PageCell Q R E
@@ -32,25 +33,29 @@ module _ {Q R E : Type 0} where
 module _ {Q R E : Type 0} (μ : Meaning PageCell Q R E) where
   -- The session holds the turn of the block's page, and the cell is what the machine says of the page by
   -- what the session knows of that turn.
-  pub record HoldsPage (o : Opening PageCell Q R) (v : ChairView PageCell Q R E) (b : ℕ) (c : PageCell) : Type 0 where
+  pub record HoldsPage (o : Opening PageCell Q R) (v : ChairView PageCell Q R E) (b : ℕ)
+      (c : PageCell) : Type 0 where
     pub turn : IsTurn o (Page b)
     pub holds : 0 < times b v.held
     pub is : Each (λ h. h.0 ≡ b → μ.page b h.1 c) v.held
 
   -- It holds the page of each of these cells. The cells stand by rising block.
-  pub record HoldsPages (o : Opening PageCell Q R) (cells : Cells) (v : ChairView PageCell Q R E) : Type 0 where
+  pub record HoldsPages (o : Opening PageCell Q R) (cells : Cells)
+      (v : ChairView PageCell Q R E) : Type 0 where
     pub rising : IsRising cells
     pub each : Each (λ x. HoldsPage o v x.0 x.1) cells
 
   -- And it holds no other turn.
-  pub record HoldsOnlyPages (o : Opening PageCell Q R) (cells : Cells) (v : ChairView PageCell Q R E) : Type 0 where
+  pub record HoldsOnlyPages (o : Opening PageCell Q R) (cells : Cells)
+      (v : ChairView PageCell Q R E) : Type 0 where
     pub pages : HoldsPages o cells v
     pub only : (k : ℕ) → times k v.held ≡ times k cells
 
   -- A cell and the one that stands for the same page after a step of the session's own, which is about
   -- these slots: it is what the machine says of the page by what was known then. Where the step is not
   -- about the page, it is the same cell.
-  pub record IsAfterStep (about : ℕ → Bool) (L : Known PageCell Q R E) (old new : ℕ × PageCell) : Type 0 where
+  pub record IsAfterStep (about : ℕ → Bool) (L : Known PageCell Q R E)
+      (old new : ℕ × PageCell) : Type 0 where
     pub block : new.0 ≡ old.0
     pub about_it : about old.0 ≡ true → μ.page old.0 L new.1
     pub about_others : about old.0 ≡ false → new.1 ≡ old.1

@@ -7,18 +7,18 @@ use Rattle.mq_drive.specs.declared.port.Port.{Ghosts}
 use Rattle.mq_exec.specs.Outcomes.{AreKnown, Answers}
 use Rattle.mq_exec.specs.declared.outcome.Done.{Done}
 use Rattle.mq_exec.specs.declared.outcome.Outcome.TheVariants.{Done as IsDone}
-use Rattle.mq_files.specs.Group.{file_group}
-use Rattle.mq_files.specs.Plans.{DoneOn}
-use Rattle.mq_files.specs.declared.entry.FileEntry.{FileEntry}
+use Rattle.mq_file_entries.specs.Group.{file_group}
+use Rattle.mq_file_entries.specs.Plans.{DoneOn}
+use Rattle.mq_file_entries.specs.declared.entry.FileEntry.{FileEntry}
 use Rattle.mq_inodes.specs.Pages.{held_pages}
 use Rattle.mq_journal.specs.Machine.{journal}
 use Rattle.mq_journal.specs.Values.{side_values}
 use Rattle.mq_pages.specs.Held.{Cells}
 use Rattle.mq_pages.specs.declared.page.PageCell.{PageCell}
-use Rattle.mq_rules.specs.Rule.{DeskState, geometry_of, map_now, shape_of}
-use Rattle.mq_rules.specs.Values.{Values}
-use Rattle.mq_side.specs.declared.root.Root.{Root}
-use Rattle.mq_side.specs.declared.side.QueueSide.{QueueSide}
+use Rattle.mq_desk_laws.specs.Rule.{DeskState, geometry_of, map_now, shape_of}
+use Rattle.mq_desk_laws.specs.Values.{Values}
+use Rattle.mq_queue_side.specs.declared.root.Root.{Root}
+use Rattle.mq_queue_side.specs.declared.side.QueueSide.{QueueSide}
 use Rattle.mq_tree.specs.declared.request.Request.{Request}
 use Rattle.mq_turns.specs.Desk.{Sees}
 use Rattle.mq_turns.specs.Meaning.{Meaning}
@@ -44,6 +44,10 @@ module _ {P : Type 0} {G : Ghosts P} (state : P → PortState) (faults : P → L
 
   -- The page of each block that the group changes is held, and whatever is known by now, the group is done
   -- so on the map at the newest number.
-  pub record IsDoneOnHeld (session : ℕ) (requests : List Request) (cells : Cells) (v : ChairView PageCell (QueueSide P FileEntry G) (Root P G) FileEntry) (done : Done) : Type 0 where
+  pub record IsDoneOnHeld (session : ℕ) (requests : List Request) (cells : Cells)
+      (v : ChairView PageCell (QueueSide P FileEntry G) (Root P G) FileEntry)
+      (done : Done) : Type 0 where
     pub known : AreKnown (held_pages cells) done
-    pub does : (K : DeskState file_values file_group) → Sees files v K → DoneOn (geometry_of file_values file_group K) session (map_now file_values file_group K) requests done
+    pub does : (K : DeskState file_values file_group) → Sees files v K
+        → DoneOn (geometry_of file_values file_group K) session
+        (map_now file_values file_group K) requests done

@@ -3,7 +3,7 @@ use Rattle.std.specs.Prelude.{◌≡◌, ◌<◌, ◌≤◌, ℕ, [], length}
 use Rattle.mq_blocks.specs.Geometry.{homes_of, queues_of}
 use Rattle.mq_blocks.specs.declared.geometry.Geometry.{Geometry}
 use Rattle.mq_drive.specs.declared.port.Port.{Ghosts}
-use Rattle.mq_files.specs.declared.entry.FileEntry.{FileEntry}
+use Rattle.mq_file_entries.specs.declared.entry.FileEntry.{FileEntry}
 use Rattle.mq_journal.specs.Numbers.{Seat}
 use Rattle.mq_pages.specs.Held.{HeldCells}
 use Rattle.mq_turns.specs.Lists.{Each}
@@ -16,7 +16,8 @@ module _ {P : Type 0} {G : Ghosts P} where
     pub few : length v.drawn ≤ calls
 
   -- It has the number of a queue, holds no turn and no cell, and has room for the cells of all home blocks.
-  pub record IsReady (g : Geometry) (session calls : ℕ) (cells : HeldCells) (v : Seat P FileEntry G) : Type 0 where
+  pub record IsReady (g : Geometry) (session calls : ℕ) (cells : HeldCells)
+      (v : Seat P FileEntry G) : Type 0 where
     pub queue : session < queues_of g
     pub own : v.session ≡ session
     pub idle : v.held ≡ []

@@ -33,7 +33,8 @@ module _ {Q R E : Type 0} where
 
 module _ {Q R E : Type 0} (μ : Meaning PageCell Q R E) where
   -- The session holds just the pages of the wanted blocks, and something may be known by now.
-  pub record HoldsWanted (o : Opening PageCell Q R) (wanted : List ℕ) (cells : Cells) (v : ChairView PageCell Q R E) : Type 0 where
+  pub record HoldsWanted (o : Opening PageCell Q R) (wanted : List ℕ) (cells : Cells)
+      (v : ChairView PageCell Q R E) : Type 0 where
     pub pages : HoldsOnlyPages μ o cells v
     pub blocks : HaveSame wanted (blocks_of cells)
     pub seen : IsSeen μ v

@@ -1,6 +1,6 @@
 // What the calls of a session answer.
 use mq_blocks::TxNo;
-use mq_side::Cause;
+use mq_queue_side::Cause;
 use mq_tree::Reply;
 
 /// A group that was done.

@@ -1,6 +1,6 @@
 // The group of a call is run on the pages that it looks at, and committed or read.
 ghost use Rattle.std.specs.Prelude.{◌≡◌, ◌<◌, ◌≤◌, IfErr, IfOk};
-ghost use Rattle.mq_files.specs.Entries.{IsUndrawn};
+ghost use Rattle.mq_file_entries.specs.Entries.{IsUndrawn};
 ghost use Rattle.mq_turns.specs.AtDesk.{AtDesk, start_of, view};
 ghost use Rattle.mq_calls.specs.Acts.{Acts, GoesOn, WaitsForNone};
 ghost use Rattle.mq_calls.specs.Calling.{HasLeft, IsHolding, IsReadOf, call_of};

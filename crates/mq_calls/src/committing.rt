@@ -1,8 +1,8 @@
 // What keeps a group from being drawn, or what it is drawn with; and why it was not done.
 use crate::answers::Refusal;
 use mq_blocks::OutOfMemory;
-use mq_files::FileEntry;
-use mq_side::{Cause, Prepared};
+use mq_file_entries::FileEntry;
+use mq_queue_side::{Cause, Prepared};
 
 /// What keeps a group from being drawn.
 #[derive(Drop)]

@@ -1,7 +1,7 @@
 // A group that is prepared is drawn and sent; or it is refused.
 ghost use Rattle.std.specs.Prelude.{◌≡◌, ◌<◌, ◌≤◌, [], IfErr, IfOk, OnErr, length};
 ghost use Rattle.mq_blocks.specs.Geometry.{homes_of, queues_of, write_limit};
-ghost use Rattle.mq_files.specs.Entries.{Changes};
+ghost use Rattle.mq_file_entries.specs.Entries.{Changes};
 ghost use Rattle.mq_turns.specs.AtDesk.{AtDesk, chairs_of, start_of, view};
 ghost use Rattle.mq_turns.specs.Desk.{allotment};
 ghost use Rattle.mq_turns.specs.declared.rule.Report.TheVariants as report;
@@ -22,11 +22,11 @@ use crate::preparing::make_ready;
 use mq_blocks::{Geometry, TxNo};
 use mq_drive::Port;
 use mq_exec::Done;
-use mq_files::FileEntry;
+use mq_file_entries::FileEntry;
 use mq_journal::{give_back_side, number, report_of, report_side, send, take_side};
 use mq_pages::Held;
+use mq_queue_side::{Cause, QueueSide};
 use mq_revoke::Placement;
-use mq_side::{Cause, QueueSide};
 use mq_turns::{Chair, Desk};
 use std::alloc::Global;
 use std::sync::Wait;

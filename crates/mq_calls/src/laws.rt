@@ -6,11 +6,11 @@ ghost use Rattle.mq_calls.specs.Laws.{ReadingGroupsChangeNothing};
 ghost use Rattle.mq_calls.specs.Laws.{DrawnPagesAreHeld, NoPageIsLeft};
 
 use crate::machine::FileMachine;
+use mq_desk_laws::JournalValues;
 use mq_drive::Port;
 use mq_journal::Groups;
 use mq_pages::PageCell;
-use mq_rules::JournalValues;
-use mq_side::QueueSide;
+use mq_queue_side::QueueSide;
 use mq_turns::{Desk, Machine};
 
 /// Whatever is known by now, each cell that a session holds is what the machine says of its page.

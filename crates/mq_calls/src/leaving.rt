@@ -1,8 +1,8 @@
 // The pages that a session gives back once its group has a number.
 ghost use Rattle.std.specs.Prelude.{◌≡◌, ℕ, []};
 ghost use Rattle.mq_blocks.specs.Descriptor.{AreRising};
-ghost use Rattle.mq_files.specs.Entries.{tx_by};
-ghost use Rattle.mq_files.specs.Laws.{blocks_in};
+ghost use Rattle.mq_file_entries.specs.Entries.{tx_by};
+ghost use Rattle.mq_file_entries.specs.Laws.{blocks_in};
 ghost use Rattle.mq_turns.specs.AtDesk.{AtDesk, view, start_of};
 ghost use Rattle.mq_calls.specs.Leaving.{AreOnCells, cells_after};
 ghost use Rattle.mq_calls.specs.Pages.{HoldsPages, blocks_of, giving_pages};
@@ -11,7 +11,7 @@ ghost use Rattle.mq_calls.specs.Runs.{files};
 use crate::machine::FileMachine;
 use mq_blocks::{BlockNo, TxNo};
 use mq_drive::Port;
-use mq_files::page_after;
+use mq_file_entries::page_after;
 use mq_pages::{Held, Write};
 use mq_revoke::Placement;
 use mq_turns::{Chair, Desk, Item, Turn};

@@ -22,6 +22,7 @@ mod preparing;
 mod reading;
 mod rounds;
 mod session;
+mod settling;
 mod telling;
 mod wanted;
 
@@ -37,3 +38,4 @@ pub use mq_checkpoint::CheckpointRefusal;
 pub use pages::{give_back_pages, take_pages};
 pub use rounds::run_held;
 pub use session::{FileSystem, Mqfs, Session, User};
+pub use settling::{Aide, Helper};

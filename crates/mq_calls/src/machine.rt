@@ -1,6 +1,6 @@
 // The machine of a file system.
 use mq_drive::Port;
-use mq_files::FileEntry;
+use mq_file_entries::FileEntry;
 use mq_journal::{Groups, JournalMachine};
 use mq_turns::Machine;
 
@@ -10,7 +10,7 @@ pub struct FileGroups;
 impl Groups for FileGroups {
     type Entry = FileEntry;
 
-    ghost use Rattle.mq_files.specs.Group.{file_group};
+    ghost use Rattle.mq_file_entries.specs.Group.{file_group};
 
     ghost group = { file_group };
 }

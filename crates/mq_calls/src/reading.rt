@@ -1,6 +1,6 @@
 // A group that is not drawn: it is read at the number that the session finds.
 ghost use Rattle.std.specs.Prelude.{◌≡◌, [], IfOk, OnErr};
-ghost use Rattle.mq_files.specs.Entries.{IsUndrawn};
+ghost use Rattle.mq_file_entries.specs.Entries.{IsUndrawn};
 ghost use Rattle.mq_turns.specs.AtDesk.{AtDesk, start_of, view};
 ghost use Rattle.mq_turns.specs.Desk.{Follows, MayRead};
 ghost use Rattle.mq_calls.specs.Calling.{IsAsking, IsReadOf, Looked, call_of};
@@ -14,7 +14,7 @@ use crate::pages::give_back_pages;
 use mq_blocks::{Geometry, OutOfMemory, TxNo};
 use mq_drive::Port;
 use mq_exec::Done;
-use mq_files::FileEntry;
+use mq_file_entries::FileEntry;
 use mq_pages::Held;
 use mq_turns::{Chair, Desk};
 use std::alloc::Global;

@@ -13,7 +13,7 @@ use crate::wanted::take_more;
 use mq_blocks::{BlockNo, Geometry, OutOfMemory, QueueNo};
 use mq_drive::Port;
 use mq_exec::{Done, Outcome, View, run};
-use mq_files::FileEntry;
+use mq_file_entries::FileEntry;
 use mq_pages::Held;
 use mq_tree::Request;
 use mq_turns::{Chair, Desk};

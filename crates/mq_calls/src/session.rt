@@ -28,7 +28,7 @@ pub struct FileSystem<M: Shaped> {
     ghost shape: { M.shape (start_of desk) ≡ geometry },
     ghost pages: { length (start_of desk).pages ≡ homes_of geometry },
     ghost sides: { length (start_of desk).sides ≡ queues_of geometry },
-    ghost chairs: { chairs_of desk ≤ queues_of geometry },
+    ghost chairs: { chairs_of desk ≤ 32 },
 }
 
 /// A user of the desk of a machine.

@@ -5,23 +5,23 @@ use Rattle.std.specs.Prelude.{None, Some}
 use Rattle.std.proofs.lemmas.Bool.{eq-eqb, eqb-true, false≢true, ne_eqb}
 use Rattle.mq_blocks.specs.Drive.{PortState}
 use Rattle.mq_blocks.specs.Geometry.{zone_of}
-use Rattle.mq_base.specs.Pages.{IsToBring}
+use Rattle.mq_base_laws.specs.Pages.{IsToBring}
 use Rattle.mq_drive.specs.Steps.{PortFault}
 use Rattle.mq_drive.specs.declared.port.Port.{Ghosts}
 use Rattle.mq_journal.specs.Numbers
 use Rattle.mq_journal.specs.Numbers.{Seat, Shared, Start}
 use Rattle.mq_ledger.specs.KnownJournal.{front}
 use Rattle.mq_pages.specs.declared.page.PageCell.{PageCell}
-use Rattle.mq_rules.specs.Groups.{GroupView}
-use Rattle.mq_rules.specs.Rule
-use Rattle.mq_rules.specs.Rule.{IsPage, same_port}
-use Rattle.mq_rules.specs.Values.{Values}
-use Rattle.mq_rules.proofs.FaultsAdded.{same_port-same}
-use Rattle.mq_rules.proofs.RuleSettled.{front_claimed}
-use Rattle.mq_rules.proofs.RuleTelling.{ok_written, page_waits, page_written}
-use Rattle.mq_rules.proofs.Meaning.{laws}
-use Rattle.mq_side.specs.declared.root.Root.{Root}
-use Rattle.mq_side.specs.declared.side.QueueSide.{QueueSide}
+use Rattle.mq_desk_laws.specs.Groups.{GroupView}
+use Rattle.mq_desk_laws.specs.Rule
+use Rattle.mq_desk_laws.specs.Rule.{IsPage, same_port}
+use Rattle.mq_desk_laws.specs.Values.{Values}
+use Rattle.mq_desk_laws.proofs.FaultsAdded.{same_port-same}
+use Rattle.mq_desk_laws.proofs.RuleSettled.{front_claimed}
+use Rattle.mq_desk_laws.proofs.RuleTelling.{ok_written, page_waits, page_written}
+use Rattle.mq_desk_laws.proofs.Meaning.{laws}
+use Rattle.mq_queue_side.specs.declared.root.Root.{Root}
+use Rattle.mq_queue_side.specs.declared.side.QueueSide.{QueueSide}
 use Rattle.mq_turns.specs.Chairs.{giving, holding}
 use Rattle.mq_turns.specs.Desk.{IsTurn, Sees, Stands, refreshed, slot_of, turn_at}
 use Rattle.mq_turns.specs.Lists.{Each, times, without}

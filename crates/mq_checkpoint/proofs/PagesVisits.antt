@@ -9,13 +9,13 @@ use Rattle.mq_journal.specs.Numbers
 use Rattle.mq_journal.specs.Numbers.{Seat, Shared, Start}
 use Rattle.mq_ledger.proofs.History.{last_le}
 use Rattle.mq_pages.specs.declared.page.PageCell.{PageCell}
-use Rattle.mq_rules.specs.Groups.{GroupView}
-use Rattle.mq_rules.specs.Rule
-use Rattle.mq_rules.specs.Rule.{IsOk, IsPage}
-use Rattle.mq_rules.specs.Values.{Values}
-use Rattle.mq_rules.proofs.RuleStaying.{length_history}
-use Rattle.mq_side.specs.declared.root.Root.{Root}
-use Rattle.mq_side.specs.declared.side.QueueSide.{QueueSide}
+use Rattle.mq_desk_laws.specs.Groups.{GroupView}
+use Rattle.mq_desk_laws.specs.Rule
+use Rattle.mq_desk_laws.specs.Rule.{IsOk, IsPage}
+use Rattle.mq_desk_laws.specs.Values.{Values}
+use Rattle.mq_desk_laws.proofs.RuleStaying.{length_history}
+use Rattle.mq_queue_side.specs.declared.root.Root.{Root}
+use Rattle.mq_queue_side.specs.declared.side.QueueSide.{QueueSide}
 use Rattle.mq_turns.specs.Chairs.{holding}
 use Rattle.mq_turns.specs.Desk.{Sees}
 use Rattle.mq_turns.specs.Meaning.{Meaning, newest}

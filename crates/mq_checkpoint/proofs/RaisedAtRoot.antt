@@ -3,8 +3,8 @@ use Rattle.std.proofs.Common.{◌≡◌, ℕ, ◌<◌, ◌≤◌, max, true, con
 use Rattle.std.specs.Prelude.{Bool, Some, Result, Ok, Err, OnOk, OnErr}
 use Rattle.std.proofs.lemmas.Bool.{eq-eqb}
 use Rattle.mq_blocks.specs.Drive.{PortState, IsBoundKept}
-use Rattle.mq_base.specs.Bases.{BaseOk, RootStands}
-use Rattle.mq_base.proofs.BasesRoots.{stands_flushed, stands_stored}
+use Rattle.mq_base_laws.specs.Bases.{BaseOk, RootStands}
+use Rattle.mq_base_laws.proofs.BasesRoots.{stands_flushed, stands_stored}
 use Rattle.mq_drive.specs.Faults.{AreMore, count_of}
 use Rattle.mq_drive.specs.Steps.{PortFault, Gains, PowerOff}
 use Rattle.mq_drive.specs.declared.port.Off.{Off}
@@ -14,18 +14,18 @@ use Rattle.mq_journal.specs.Numbers.{Seat, Shared, Start}
 use Rattle.mq_journal.proofs.Sent.{gained_more, off_backed}
 use Rattle.mq_ledger.specs.KnownJournal.{KnownJournal}
 use Rattle.mq_pages.specs.declared.page.PageCell.{PageCell}
-use Rattle.mq_rules.specs.Groups.{GroupView}
-use Rattle.mq_rules.specs.Rule
-use Rattle.mq_rules.specs.Rule.{IsOk, IsPage, IsRoot}
-use Rattle.mq_rules.specs.Values.{Values}
-use Rattle.mq_rules.proofs.Faults.{charged_more}
-use Rattle.mq_rules.proofs.RuleTelling.{ok_raised, root_charged, root_raised}
-use Rattle.mq_rules.proofs.Meaning.{laws}
-use Rattle.mq_side.specs.Roots.{IsRaiseCut, after_raise}
-use Rattle.mq_side.specs.declared.answers.Cause.TheVariants as cause
-use Rattle.mq_side.specs.declared.root.Root.{Root}
-use Rattle.mq_side.specs.declared.side.QueueSide.{QueueSide}
-use Rattle.mq_side.proofs.DrainedCompletes.{bound_now, bound_then, gains_rises}
+use Rattle.mq_desk_laws.specs.Groups.{GroupView}
+use Rattle.mq_desk_laws.specs.Rule
+use Rattle.mq_desk_laws.specs.Rule.{IsOk, IsPage, IsRoot}
+use Rattle.mq_desk_laws.specs.Values.{Values}
+use Rattle.mq_desk_laws.proofs.Faults.{charged_more}
+use Rattle.mq_desk_laws.proofs.RuleTelling.{ok_raised, root_charged, root_raised}
+use Rattle.mq_desk_laws.proofs.Meaning.{laws}
+use Rattle.mq_queue_side.specs.Roots.{IsRaiseCut, after_raise}
+use Rattle.mq_queue_side.specs.declared.answers.Cause.TheVariants as cause
+use Rattle.mq_queue_side.specs.declared.root.Root.{Root}
+use Rattle.mq_queue_side.specs.declared.side.QueueSide.{QueueSide}
+use Rattle.mq_queue_side.proofs.DrainedCompletes.{bound_now, bound_then, gains_rises}
 use Rattle.mq_turns.specs.Chairs.{giving, holding}
 use Rattle.mq_turns.specs.Desk.{Sees, refreshed, slot_of, turn_at}
 use Rattle.mq_turns.specs.Lists.{Each, times, without}

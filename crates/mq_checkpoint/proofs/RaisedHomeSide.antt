@@ -6,10 +6,11 @@ use Rattle.mq_blocks.specs.Geometry.{homes_of, home_lba, zone_of}
 use Rattle.mq_blocks.specs.Ports.{IsPort}
 use Rattle.mq_blocks.specs.declared.geometry.Geometry.{Geometry}
 use Rattle.mq_blocks.proofs.GeometryZones.{zone-row}
-use Rattle.mq_base.specs.Bases.{BaseOk}
-use Rattle.mq_base.specs.Pages.{IsToBring}
-use Rattle.mq_base.proofs.Bases.{base_later}
-use Rattle.mq_base.proofs.PagesHomeWrites.{grown_brought, log_brought, logged_last, root_began, root_brought, side_began, side_brought}
+use Rattle.mq_base_laws.specs.Bases.{BaseOk}
+use Rattle.mq_base_laws.specs.Pages.{IsToBring}
+use Rattle.mq_base_laws.proofs.Bases.{base_later}
+use Rattle.mq_base_laws.proofs.PagesHomeWrites.{grown_brought, log_brought, logged_last, root_brought, side_brought}
+use Rattle.mq_core.proofs.HomesWritten.{root_began, side_began}
 use Rattle.mq_core.specs.Events.{begin_home, end_home}
 use Rattle.mq_drive.specs.Faults.{AreMore, count_of}
 use Rattle.mq_drive.specs.Steps.{PortFault, Gains, HomeError, HomeGives, PowerOff}
@@ -27,23 +28,23 @@ use Rattle.mq_ledger.specs.KnownJournal.{KnownJournal}
 use Rattle.mq_ledger.specs.Sides.{RootOk, SideOk}
 use Rattle.mq_ledger.specs.declared.tx.Tx.{Tx}
 use Rattle.mq_pages.specs.declared.page.PageCell.{PageCell}
-use Rattle.mq_rules.specs.Faults.{AreCharged, IsBacked, of_kind, reports_of}
-use Rattle.mq_rules.specs.Groups.{GroupView}
-use Rattle.mq_rules.specs.Rule
-use Rattle.mq_rules.specs.Rule.{IsOk, IsPage, IsRoot, IsSide}
-use Rattle.mq_rules.specs.Values.{Values}
-use Rattle.mq_rules.proofs.Faults.{charged_more}
-use Rattle.mq_rules.proofs.RuleTelling.{root_charged}
-use Rattle.mq_side.specs.Counts.{KeepsCount}
-use Rattle.mq_side.specs.Drained.{Rises}
-use Rattle.mq_side.specs.Homes.{RootStaysAt, StaysAt}
-use Rattle.mq_side.specs.Side.{IsQueueSide, side_state}
-use Rattle.mq_side.specs.Stored.{AreStored}
-use Rattle.mq_side.specs.Told.{KeepsTold}
-use Rattle.mq_side.specs.declared.root.Root.{Root}
-use Rattle.mq_side.specs.declared.side.QueueSide.{QueueSide}
-use Rattle.mq_side.proofs.DrainedCompletes.{bound_then, gains_rises}
-use Rattle.mq_side.proofs.Told.{one_more}
+use Rattle.mq_desk_laws.specs.Faults.{AreCharged, IsBacked, of_kind, reports_of}
+use Rattle.mq_desk_laws.specs.Groups.{GroupView}
+use Rattle.mq_desk_laws.specs.Rule
+use Rattle.mq_desk_laws.specs.Rule.{IsOk, IsPage, IsRoot, IsSide}
+use Rattle.mq_desk_laws.specs.Values.{Values}
+use Rattle.mq_desk_laws.proofs.Faults.{charged_more}
+use Rattle.mq_desk_laws.proofs.RuleTelling.{root_charged}
+use Rattle.mq_queue_side.specs.Counts.{KeepsCount}
+use Rattle.mq_queue_side.specs.Drained.{Rises}
+use Rattle.mq_queue_side.specs.Homes.{RootStaysAt, StaysAt}
+use Rattle.mq_queue_side.specs.Side.{IsQueueSide, side_state}
+use Rattle.mq_queue_side.specs.Stored.{AreStored}
+use Rattle.mq_queue_side.specs.Told.{KeepsTold}
+use Rattle.mq_queue_side.specs.declared.root.Root.{Root}
+use Rattle.mq_queue_side.specs.declared.side.QueueSide.{QueueSide}
+use Rattle.mq_queue_side.proofs.DrainedCompletes.{bound_then, gains_rises}
+use Rattle.mq_queue_side.proofs.Told.{one_more}
 use Rattle.mq_turns.specs.Lists.{Each}
 use Rattle.mq_turns.specs.Meaning.{charged, written}
 use Rattle.mq_turns.specs.declared.rule.Charge.{Charge}

@@ -5,8 +5,8 @@ use Rattle.mq_drive.specs.Steps.{PortFault}
 use Rattle.mq_drive.specs.declared.port.Port.{Ghosts}
 use Rattle.mq_pages.specs.declared.page.PageCell.{PageCell}
 use Rattle.mq_journal.specs.Numbers.{Seat, Shared}
-use Rattle.mq_rules.specs.Groups.{GroupView}
-use Rattle.mq_side.specs.declared.answers.Cause.{Cause}
+use Rattle.mq_desk_laws.specs.Groups.{GroupView}
+use Rattle.mq_queue_side.specs.declared.answers.Cause.{Cause}
 use Rattle.mq_turns.specs.Lists.{Each}
 use Rattle.mq_turns.specs.Meaning.{HasNumberAt}
 use Rattle.mq_turns.specs.declared.rule.MarkAnswer.{MarkAnswer}

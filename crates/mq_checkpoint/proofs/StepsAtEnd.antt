@@ -4,23 +4,23 @@ use Rattle.std.specs.Prelude.{Some}
 use Rattle.mq_blocks.specs.Drive.{PortState}
 use Rattle.mq_blocks.specs.Geometry.{homes_of}
 use Rattle.mq_blocks.specs.declared.geometry.Geometry.{Geometry}
-use Rattle.mq_base.specs.Bases.{BaseOk}
-use Rattle.mq_base.specs.Pages.{WasBrought}
-use Rattle.mq_base.proofs.Pages.{raise}
+use Rattle.mq_base_laws.specs.Bases.{BaseOk}
+use Rattle.mq_base_laws.specs.Pages.{WasBrought}
+use Rattle.mq_base_laws.proofs.Pages.{raise}
 use Rattle.mq_drive.specs.Steps.{PortFault}
 use Rattle.mq_drive.specs.declared.port.Port.{Ghosts}
 use Rattle.mq_journal.specs.Numbers
 use Rattle.mq_journal.specs.Numbers.{Seat, Shared, Start}
 use Rattle.mq_pages.specs.declared.page.PageCell.{PageCell}
-use Rattle.mq_rules.specs.Groups.{GroupView}
-use Rattle.mq_rules.specs.Rule
-use Rattle.mq_rules.specs.Rule.{IsOk, IsPage}
-use Rattle.mq_rules.specs.Values.{Values}
-use Rattle.mq_rules.proofs.RuleStaying.{core_grown}
-use Rattle.mq_rules.proofs.RuleTelling.{page_numbers}
-use Rattle.mq_side.specs.declared.answers.Cause.{Cause}
-use Rattle.mq_side.specs.declared.root.Root.{Root}
-use Rattle.mq_side.specs.declared.side.QueueSide.{QueueSide}
+use Rattle.mq_desk_laws.specs.Groups.{GroupView}
+use Rattle.mq_desk_laws.specs.Rule
+use Rattle.mq_desk_laws.specs.Rule.{IsOk, IsPage}
+use Rattle.mq_desk_laws.specs.Values.{Values}
+use Rattle.mq_desk_laws.proofs.RuleStaying.{core_grown}
+use Rattle.mq_desk_laws.proofs.RuleTelling.{page_numbers}
+use Rattle.mq_queue_side.specs.declared.answers.Cause.{Cause}
+use Rattle.mq_queue_side.specs.declared.root.Root.{Root}
+use Rattle.mq_queue_side.specs.declared.side.QueueSide.{QueueSide}
 use Rattle.mq_turns.specs.Desk.{Below, Sees}
 use Rattle.mq_turns.specs.Lists.{Each}
 use Rattle.mq_turns.specs.Meaning.{Grows, Meaning, newest}

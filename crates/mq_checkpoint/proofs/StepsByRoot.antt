@@ -15,15 +15,15 @@ use Rattle.mq_journal.specs.Numbers
 use Rattle.mq_journal.proofs.DrainingRefusing.{taken_seen}
 use Rattle.mq_journal.specs.Numbers.{HoldsSide, IsReported, Seat, Shared, Start, reported}
 use Rattle.mq_pages.specs.declared.page.PageCell.{PageCell}
-use Rattle.mq_rules.specs.Groups.{GroupView}
-use Rattle.mq_rules.specs.Rule
-use Rattle.mq_rules.specs.Rule.{IsOfRoot, IsRoot}
-use Rattle.mq_rules.specs.Values.{Values}
-use Rattle.mq_rules.proofs.Meaning.{laws}
-use Rattle.mq_side.specs.Homes.{RootStaysAt}
-use Rattle.mq_side.specs.declared.answers.Cause.{Cause}
-use Rattle.mq_side.specs.declared.root.Root.{Root}
-use Rattle.mq_side.specs.declared.side.QueueSide.{QueueSide}
+use Rattle.mq_desk_laws.specs.Groups.{GroupView}
+use Rattle.mq_desk_laws.specs.Rule
+use Rattle.mq_desk_laws.specs.Rule.{IsOfRoot, IsRoot}
+use Rattle.mq_desk_laws.specs.Values.{Values}
+use Rattle.mq_desk_laws.proofs.Meaning.{laws}
+use Rattle.mq_queue_side.specs.Homes.{RootStaysAt}
+use Rattle.mq_queue_side.specs.declared.answers.Cause.{Cause}
+use Rattle.mq_queue_side.specs.declared.root.Root.{Root}
+use Rattle.mq_queue_side.specs.declared.side.QueueSide.{QueueSide}
 use Rattle.mq_turns.specs.Chairs.{holding}
 use Rattle.mq_turns.specs.Desk.{Sees, slot_of}
 use Rattle.mq_turns.specs.Lists.{Each, times}

@@ -8,12 +8,12 @@ use Rattle.mq_drive.specs.declared.port.Port.{Ghosts}
 use Rattle.mq_journal.specs.Draining.{answer_upto}
 use Rattle.mq_journal.specs.Numbers.{Seat}
 use Rattle.mq_journal.specs.Sweeping.{HasSwept, WasRefused}
-use Rattle.mq_rules.specs.Groups.{GroupView}
-use Rattle.mq_side.specs.Drained.{DrainCause, Drains, Failures, kept_after}
-use Rattle.mq_side.specs.Side.{side_state}
-use Rattle.mq_side.specs.declared.answers.Cause.{Cause}
-use Rattle.mq_side.specs.declared.answers.Cause.TheVariants as cause
-use Rattle.mq_side.specs.declared.side.QueueSide.{QueueSide}
+use Rattle.mq_desk_laws.specs.Groups.{GroupView}
+use Rattle.mq_queue_side.specs.Drained.{DrainCause, Drains, Failures, kept_after}
+use Rattle.mq_queue_side.specs.Side.{side_state}
+use Rattle.mq_queue_side.specs.declared.answers.Cause.{Cause}
+use Rattle.mq_queue_side.specs.declared.answers.Cause.TheVariants as cause
+use Rattle.mq_queue_side.specs.declared.side.QueueSide.{QueueSide}
 use Rattle.mq_turns.specs.Lists.{Each}
 use Rattle.mq_turns.specs.Meaning.{HasNumberAt}
 use Rattle.mq_turns.specs.declared.turn.Turn.TheVariants.{Side}

@@ -6,8 +6,8 @@ use Rattle.mq_drive.specs.declared.port.Port.{Ghosts}
 use Rattle.mq_journal.specs.Numbers.{Seat, Shared, Start, values}
 use Rattle.mq_ledger.specs.KnownJournal.{front}
 use Rattle.mq_pages.specs.declared.page.PageCell.{PageCell}
-use Rattle.mq_rules.specs.Groups.{GroupView}
-use Rattle.mq_rules.specs.Rule.{IsPage, core_of}
+use Rattle.mq_desk_laws.specs.Groups.{GroupView}
+use Rattle.mq_desk_laws.specs.Rule.{IsPage, core_of}
 
 -- the cell once the content of its last change is at home
 abbrev pub at_home : PageCell → PageCell
@@ -16,12 +16,15 @@ at_home c = record c { home_version = c.version }
 -- no base up to the block's last change needs a home write of it: where the block is in the map, and its
 -- last change logged it, its content is at home
 abbrev pub IsAtHome : PageCell → Type 0
-IsAtHome c = (content : List ℕ) → c.content ≡ Some content → c.last_logged ≡ c.version → c.version ≤ c.home_version
+IsAtHome c =
+    (content : List ℕ) → c.content ≡ Some content → c.last_logged ≡ c.version
+    → c.version ≤ c.home_version
 
 -- a copy of what waits for a home write, where the cell does
 abbrev pub IsCopyOf : PageCell → Option (List ℕ) → Type 0
 IsCopyOf c None = IsAtHome c
-IsCopyOf c (Some copy) = (c.content ≡ Some copy) × (c.last_logged ≡ c.version) × (c.home_version < c.version)
+IsCopyOf c (Some copy) =
+    (c.content ≡ Some copy) × (c.last_logged ≡ c.version) × (c.home_version < c.version)
 
 module _ {P E : Type 0} {G : Ghosts P} where
   -- The cell waits for a home write: its last change logged it, is above the last number whose content came
@@ -31,14 +34,16 @@ module _ {P E : Type 0} {G : Ghosts P} where
     pub waits : c.home_version < c.version
     pub done : c.version ≤ v.reading.done
 
-module _ {P E : Type 0} {G : Ghosts P} (state : P → PortState) (faults : P → List PortFault) (group : GroupView E) where
+module _ {P E : Type 0} {G : Ghosts P} (state : P → PortState) (faults : P → List PortFault)
+    (group : GroupView E) where
   -- By what was known then, the base was done and so was the page's last change, and the base needed no
   -- home write of the page: where the block is in the map, and its last change logged it and is not above
   -- the base, its content is at home.
   pub record WasBroughtHome (base : ℕ) (c : PageCell) (K : Shared P E G) : Type 0 where
     pub reached : base ≤ front (core_of (values state faults group) group K)
     pub done : c.version ≤ front (core_of (values state faults group) group K)
-    pub home : (content : List ℕ) → c.content ≡ Some content → c.last_logged ≡ c.version → c.version ≤ base → c.version ≤ c.home_version
+    pub home : (content : List ℕ) → c.content ≡ Some content → c.last_logged ≡ c.version
+        → c.version ≤ base → c.version ≤ c.home_version
 
   -- one of the notes is of the page, and says so
   abbrev pub IsNoted : (base x : ℕ) → List (ℕ × PageCell × Shared P E G) → Type 0

@@ -1,16 +1,16 @@
 -- What a checkpoint has done once the base is raised.
 use Rattle.std.specs.Prelude.{◌≡◌, ◌⊎◌, ◌<◌, ◌≤◌, ℕ, List, [], ◌∷◌, ◌++◌}
 use Rattle.mq_blocks.specs.Drive.{PortState, IsBoundKept}
-use Rattle.mq_base.specs.Bases.{BaseOk, RootStands}
+use Rattle.mq_base_laws.specs.Bases.{BaseOk, RootStands}
 use Rattle.mq_drive.specs.Steps.{PortFault}
 use Rattle.mq_drive.specs.declared.port.Port.{Ghosts}
 use Rattle.mq_journal.specs.Numbers.{Seat, Shared, Start, machine, values}
 use Rattle.mq_ledger.specs.KnownJournal.{KnownJournal}
 use Rattle.mq_pages.specs.declared.page.PageCell.{PageCell}
-use Rattle.mq_rules.specs.Groups.{GroupView}
-use Rattle.mq_rules.specs.Rule.{IsOk, IsRoot}
-use Rattle.mq_side.specs.Roots.{after_raise}
-use Rattle.mq_side.specs.declared.root.Root.{Root}
+use Rattle.mq_desk_laws.specs.Groups.{GroupView}
+use Rattle.mq_desk_laws.specs.Rule.{IsOk, IsRoot}
+use Rattle.mq_queue_side.specs.Roots.{after_raise}
+use Rattle.mq_queue_side.specs.declared.root.Root.{Root}
 use Rattle.mq_turns.specs.Chairs.{giving}
 use Rattle.mq_turns.specs.Desk.{Below, Sees, slot_of}
 use Rattle.mq_turns.specs.Meaning.{charged, raised}
@@ -32,7 +32,8 @@ pub record KeepsStanding (base : ℕ) (old new : PortState) : Type 0 where
 -- The root's flushed base has come to this one. Either it was there before, and the root is as it was, with
 -- its port: nothing was stored and nothing flushed. Or it was below, and the port has stored this base and
 -- flushed it, once each, and done nothing else.
-abbrev pub HasRaised : {P : Type 0} {G : Ghosts P} → (P → PortState) → (base : ℕ) → Root P G → Root P G → Type 0
+abbrev pub HasRaised : {P : Type 0} {G : Ghosts P} → (P → PortState) → (base : ℕ) → Root P G → Root P G
+    → Type 0
 HasRaised state base old new =
     (((state old.port).base ≡ base) × (new ≡ old))
     ⊎ (((state old.port).base < base) × (state new.port ≡ after_raise (state old.port) base))
@@ -41,7 +42,8 @@ HasRaised state base old new =
 abbrev pub reported_root : Report → Charge
 reported_root r = record { port = turn.Root; report = r }
 
-module _ {P E : Type 0} {G : Ghosts P} (state : P → PortState) (faults : P → List PortFault) (group : GroupView E) where
+module _ {P E : Type 0} {G : Ghosts P} (state : P → PortState) (faults : P → List PortFault)
+    (group : GroupView E) where
   -- By what was known then, the session took the root as it lay there. It gave it back with this base
   -- flushed, which was stored and flushed just where the root's was below it. At a moment between, the word
   -- was raised to it: so the root is what the rule says.
@@ -88,14 +90,20 @@ module _ {P E : Type 0} {G : Ghosts P} (state : P → PortState) (faults : P →
 
   -- Whatever is known: with the report, the root is what the rule says.
   abbrev pub ShowsRootReport : Report → Root P G → Seat P E G → Type 0
-  ShowsRootReport r root v = (K : Shared P E G) → Sees (machine state faults group) v K → IsRoot (values state faults group) group (charged (reported_root r) K) root
+  ShowsRootReport r root v =
+      (K : Shared P E G) → Sees (machine state faults group) v K
+      → IsRoot (values state faults group) group (charged (reported_root r) K) root
 
   -- It was reported of the root's port, and the root was given back.
   pub record IsReportedOfRoot (o : Start P E G) (r : Report) (old new : Seat P E G) : Type 0 where
     pub known : Shared P E G
     pub sees : Sees (machine state faults group) old known
-    pub is : new ≡ giving (slot_of o turn.Root) (after_notice (machine state faults group) (notice.Charge (reported_root r)) known old)
+    pub is : new
+        ≡ giving (slot_of o turn.Root)
+        (after_notice (machine state faults group) (notice.Charge (reported_root r)) known old)
 
   -- It was refused before its front was read, or after.
   abbrev pub HasRefused : CheckpointRefusal → Seat P E G → Seat P E G → Type 0
-  HasRefused r old new = RefusesCheckpoint state faults group [] r old new ⊎ ((front : ℕ) × RefusesCheckpoint state faults group (Front front ∷ []) r old new)
+  HasRefused r old new =
+      RefusesCheckpoint state faults group [] r old new
+      ⊎ ((front : ℕ) × RefusesCheckpoint state faults group (Front front ∷ []) r old new)

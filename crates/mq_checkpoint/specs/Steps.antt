@@ -7,14 +7,14 @@ use Rattle.mq_journal.specs.Draining.{report_of}
 use Rattle.mq_journal.specs.Numbers.{Seat, Shared}
 use Rattle.mq_journal.specs.Values.{side_values}
 use Rattle.mq_pages.specs.declared.page.PageCell.{PageCell}
-use Rattle.mq_rules.specs.Groups.{GroupView}
-use Rattle.mq_rules.specs.Rule.{IsOfRoot, IsOk, IsRoot, IsSide}
-use Rattle.mq_side.specs.Drained.{Rises}
-use Rattle.mq_side.specs.declared.answers.Cause.{Cause}
-use Rattle.mq_side.specs.declared.answers.Cause.TheVariants as cause
-use Rattle.mq_side.specs.declared.answers.Why.{Why}
-use Rattle.mq_side.specs.declared.root.Root.{Root}
-use Rattle.mq_side.specs.declared.side.QueueSide.{QueueSide}
+use Rattle.mq_desk_laws.specs.Groups.{GroupView}
+use Rattle.mq_desk_laws.specs.Rule.{IsOfRoot, IsOk, IsRoot, IsSide}
+use Rattle.mq_queue_side.specs.Drained.{Rises}
+use Rattle.mq_queue_side.specs.declared.answers.Cause.{Cause}
+use Rattle.mq_queue_side.specs.declared.answers.Cause.TheVariants as cause
+use Rattle.mq_queue_side.specs.declared.answers.Why.{Why}
+use Rattle.mq_queue_side.specs.declared.root.Root.{Root}
+use Rattle.mq_queue_side.specs.declared.side.QueueSide.{QueueSide}
 use Rattle.mq_turns.specs.Lists.{Each}
 use Rattle.mq_turns.specs.Meaning.{HasNumberAt, newest}
 use Rattle.mq_turns.specs.declared.rule.MarkAnswer.{MarkAnswer}
@@ -29,7 +29,8 @@ module _ {P E : Type 0} {G : Ghosts P} where
   -- The session reported this, and was answered these fronts. It may know of greater numbers, drawn and
   -- done, and may have noted pages. What it is, what it drew, what it read and the base that it knows of
   -- stay; of the turns that it holds nothing is said.
-  pub record MovesOn (reports : List Charge) (fronts : List MarkAnswer) (old new : Seat P E G) : Type 0 where
+  pub record MovesOn (reports : List Charge) (fronts : List MarkAnswer)
+      (old new : Seat P E G) : Type 0 where
     pub parts : new.parts ≡ old.parts
     pub opening : new.opening ≡ old.opening
     pub session : new.session ≡ old.session
@@ -51,7 +52,8 @@ IsCauseOf (cause.Failed tx status) kept old new = Rises old new
 IsCauseOf (cause.FailedHome block status) kept old new = Rises old new
 IsCauseOf (cause.Stopped tx why) kept old new = kept ≡ Some (tx, why)
 
-module _ {P E : Type 0} {G : Ghosts P} (state : P → PortState) (faults : P → List PortFault) (group : GroupView E) where
+module _ {P E : Type 0} {G : Ghosts P} (state : P → PortState) (faults : P → List PortFault)
+    (group : GroupView E) where
   -- This may have been known on the session's desk from then on: it is by the rule of the desk, no number
   -- that the session had seen or heard of is above it, and each group that the session had drawn is in it
   -- with its number.
@@ -64,8 +66,12 @@ module _ {P E : Type 0} {G : Ghosts P} (state : P → PortState) (faults : P →
   -- By what was known since then, a side or the root that the session held is what lies there, and its port
   -- came to this refusal.
   pub data IsCaused (v : Seat P E G) : Turn → Cause → Type 0 where
-    at_side : {q : ℕ} {c : Cause} (K : Shared P E G) (s after : QueueSide P E G) → IsKnownFrom v K → IsSide (side_values state faults) group q K s → IsCauseOf c s.kept (faults s.pmr.port) (faults after.pmr.port) → IsCaused v (Side q) c
-    at_root : {c : Cause} (K : Shared P E G) (r after : Root P G) → IsOfRoot (report_of c) → IsKnownFrom v K → IsRoot (side_values state faults) group K r → IsCauseOf c None (faults r.port) (faults after.port) → IsCaused v turn.Root c
+    at_side : {q : ℕ} {c : Cause} (K : Shared P E G) (s after : QueueSide P E G) → IsKnownFrom v K
+        → IsSide (side_values state faults) group q K s
+        → IsCauseOf c s.kept (faults s.pmr.port) (faults after.pmr.port) → IsCaused v (Side q) c
+    at_root : {c : Cause} (K : Shared P E G) (r after : Root P G) → IsOfRoot (report_of c)
+        → IsKnownFrom v K → IsRoot (side_values state faults) group K r
+        → IsCauseOf c None (faults r.port) (faults after.port) → IsCaused v turn.Root c
 
   -- The drive refused a call on a port whose turn the session held: that alone was reported.
   pub record IsRefusedBy (fronts : List MarkAnswer) (c : Cause) (old new : Seat P E G) : Type 0 where

@@ -2,7 +2,7 @@
 ghost use Rattle.std.specs.Prelude.{◌≡◌, ◌<◌, ◌≤◌, [], length, IfErr, OnErr, OnOk, Some, None};
 ghost use Rattle.mq_blocks.specs.Geometry.{homes_of, queues_of, zone_of};
 ghost use Rattle.mq_journal.specs.Numbers.{values};
-ghost use Rattle.mq_rules.specs.Rule.{shape_of};
+ghost use Rattle.mq_desk_laws.specs.Rule.{shape_of};
 ghost use Rattle.mq_turns.specs.AtDesk.{AtDesk, view, start_of};
 ghost use Rattle.mq_checkpoint.specs.Pages.{HoldsOnlyPage, IsDue, at_home};
 ghost use Rattle.mq_checkpoint.specs.Steps.{IsRefusedBy, MovesOn};
@@ -12,7 +12,7 @@ use mq_blocks::{Block, BlockNo, Geometry, QueueNo};
 use mq_drive::{HomeStep, Port};
 use mq_journal::{Groups, JournalMachine, give_back_side, report_side, take_side};
 use mq_pages::PageCell;
-use mq_side::Cause;
+use mq_queue_side::Cause;
 use mq_turns::{Chair, Desk, Item, Report, Turn};
 use std::sync::Wait;
 

@@ -2,7 +2,7 @@
 ghost use Rattle.std.specs.Prelude.{◌≡◌, ◌<◌, ◌≤◌, ℕ, [], length, IfErr, IfOk, OnOk, None, Some};
 ghost use Rattle.mq_blocks.specs.Geometry.{homes_of, queues_of};
 ghost use Rattle.mq_journal.specs.Numbers.{values};
-ghost use Rattle.mq_rules.specs.Rule.{shape_of};
+ghost use Rattle.mq_desk_laws.specs.Rule.{shape_of};
 ghost use Rattle.mq_turns.specs.AtDesk.{AtDesk, view, start_of};
 ghost use Rattle.mq_checkpoint.specs.Pages.{AreNoted, HoldsOnlyPage, IsAtHome, IsCopyOf, IsNoted};
 ghost use Rattle.mq_checkpoint.specs.Steps.{IsRefusedBy, MovesOn, RefusesCheckpoint};
@@ -14,7 +14,7 @@ use mq_blocks::{Block, BlockNo, Geometry, OutOfMemory, TxNo};
 use mq_drive::Port;
 use mq_journal::{Groups, JournalMachine};
 use mq_pages::PageCell;
-use mq_side::Cause;
+use mq_queue_side::Cause;
 use mq_turns::{Chair, Desk, Item, Turn};
 use std::alloc::Global;
 use std::sync::Wait;

@@ -2,7 +2,7 @@
 ghost use Rattle.std.specs.Prelude.{◌≡◌, [], length, IfErr, IfOk};
 ghost use Rattle.mq_blocks.specs.Geometry.{homes_of, queues_of};
 ghost use Rattle.mq_journal.specs.Numbers.{values};
-ghost use Rattle.mq_rules.specs.Rule.{shape_of};
+ghost use Rattle.mq_desk_laws.specs.Rule.{shape_of};
 ghost use Rattle.mq_turns.specs.AtDesk.{AtDesk, view, start_of};
 ghost use Rattle.mq_checkpoint.specs.Raised.{HasRefused, Raises};
 

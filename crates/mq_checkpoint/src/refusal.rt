@@ -1,6 +1,6 @@
 // Why a checkpoint ends without a base.
 use mq_blocks::OutOfMemory;
-use mq_side::Cause;
+use mq_queue_side::Cause;
 
 /// Why a checkpoint did not raise the base.
 #[derive(Clone, Copy, Debug, PartialEq, Eq)]

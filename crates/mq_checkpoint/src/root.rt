@@ -1,9 +1,9 @@
 // What a checkpoint does with the root.
 ghost use Rattle.std.specs.Prelude.{◌≡◌, ◌<◌, ◌≤◌, [], length, IfErr, IfOk, OnOk};
-ghost use Rattle.mq_base.specs.Bases.{BaseOk};
+ghost use Rattle.mq_base_laws.specs.Bases.{BaseOk};
 ghost use Rattle.mq_drive.specs.Steps.{OffCause};
 ghost use Rattle.mq_journal.specs.Numbers.{Shared, machine, values};
-ghost use Rattle.mq_rules.specs.Rule.{IsOfRoot, core_of};
+ghost use Rattle.mq_desk_laws.specs.Rule.{IsOfRoot, core_of};
 ghost use Rattle.mq_turns.specs.AtDesk.{AtDesk, view, start_of};
 ghost use Rattle.mq_turns.specs.Desk.{Sees, slot_of};
 ghost use Rattle.mq_turns.specs.Lists.{times};
@@ -14,7 +14,7 @@ ghost use Rattle.mq_checkpoint.specs.Steps.{IsRefusedBy};
 use mq_blocks::TxNo;
 use mq_drive::{Off, Port};
 use mq_journal::{Groups, JournalMachine};
-use mq_side::{Cause, Root};
+use mq_queue_side::{Cause, Root};
 use mq_turns::{Chair, Charge, Desk, Item, Report, Turn};
 use std::sync::Wait;
 

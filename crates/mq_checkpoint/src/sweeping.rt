@@ -10,7 +10,7 @@ ghost use Rattle.mq_checkpoint.specs.Steps.{IsRefusedBy, MovesOn};
 use mq_blocks::TxNo;
 use mq_drive::Port;
 use mq_journal::{Groups, JournalMachine, drain_all};
-use mq_side::Cause;
+use mq_queue_side::Cause;
 use mq_turns::{Chair, Desk};
 use std::sync::Wait;
 

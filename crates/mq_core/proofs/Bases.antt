@@ -68,7 +68,7 @@ none_with s b n (c ∷ cs) none held = elim (cases_Bool (is_due s b (home_of s.g
   ])
 ]
 
-none_own : (s : State) (b q from : ℕ) (txs : List Tx) (cs : List Command) → AreOwn s.geometry q from txs cs → ((n : ℕ) → holds_count n cs ≡ true → is_due s b (home_of s.geometry (command_of s.geometry q n (item_at from txs n))) ≡ false) → writes_none s b cs ≡ true
+none_own : (s : State) (b q from : ℕ) (txs : List Tx) (cs : List Command) → AreOwn plain.form s.geometry q from txs cs → ((n : ℕ) → holds_count n cs ≡ true → is_due s b (home_of s.geometry (command_of plain.form s.geometry q n (item_at from txs n))) ≡ false) → writes_none s b cs ≡ true
 none_own s b q from txs [] own each = refl
 none_own s b q from txs (c ∷ cs) own each =
     let here : is_due s b (home_of s.geometry c) ≡ false = ap (λ (d : Command). is_due s b (home_of s.geometry d)) own.0 ∙ each c.count (rw (eq-eqb c.count c.count refl) refl) in
@@ -143,10 +143,10 @@ module _ (s : State) (f : Facts plain s) (b : ℕ) (reached : b ≤ front_of s) 
           record {
             certain = record {
               certain = rw at at h.certain;
-              apart = apart_own p s.geometry q (from_at s.starts q) (us_of s q) (home_index s.geometry x) p.posted side.commands.posted (λ n held same.
+              apart = apart_own plain.form p s.geometry q (from_at s.starts q) (us_of s q) (home_index s.geometry x) p.posted side.commands.posted (λ n held same.
                   let late = posted_late k q (us_of s q) p f.log side n held in
                   let to = writes_home q n x own late.0 zone same in
-                  let is : home_of s.geometry (command_with n p.posted) ≡ Some x = home-home s.geometry x (command_with n p.posted) (ap (λ (c : Command). c.lba) (own_with s.geometry q (from_at s.starts q) n (us_of s q) p.posted side.commands.posted held) ∙ ap (lba_of s.geometry q) to) in
+                  let is : home_of s.geometry (command_with n p.posted) ≡ Some x = home-home s.geometry x (command_with n p.posted) (ap (λ (c : Command). c.lba) (own_with plain.form s.geometry q (from_at s.starts q) n (us_of s q) p.posted side.commands.posted held) ∙ ap (lba_of s.geometry q) to) in
                   let not = none_with s b n p.posted clear held in
                   false≢true (sym not ∙ ap (is_due s b) is ∙ ap is_some due));
             };
@@ -192,15 +192,15 @@ module _ (s : State) (f : Facts plain s) (b : ℕ) (reached : b ≤ front_of s) 
       let p = port_at s.ports q in
       none_own s b q (from_at s.starts q) (us_of s q) p.posted side.commands.posted (λ n held. not_due q own n held))
     where
-      not_due : (q : ℕ) (own : q < s.geometry.queues) (n : ℕ) → holds_count n (port_at s.ports q).posted ≡ true → is_due s b (home_of s.geometry (command_of s.geometry q n (item_at (from_at s.starts q) (us_of s q) n))) ≡ false
+      not_due : (q : ℕ) (own : q < s.geometry.queues) (n : ℕ) → holds_count n (port_at s.ports q).posted ≡ true → is_due s b (home_of s.geometry (command_of plain.form s.geometry q n (item_at (from_at s.starts q) (us_of s q) n))) ≡ false
       not_due q own n held = go (item_at (from_at s.starts q) (us_of s q) n).target refl
         where
           p : PortState
           p = port_at s.ports q
 
-          go : (target : Target) → (item_at (from_at s.starts q) (us_of s q) n).target ≡ target → is_due s b (home_of s.geometry (command_of s.geometry q n (item_at (from_at s.starts q) (us_of s q) n))) ≡ false
-          go (AtPlace r) e = ap (is_due s b) (home-place s.geometry q r (command_of s.geometry q n (item_at (from_at s.starts q) (us_of s q) n)) own (ap (lba_of s.geometry q) e))
-          go (AtHome y) e = ap (is_due s b) (home-home s.geometry y (command_of s.geometry q n (item_at (from_at s.starts q) (us_of s q) n)) (ap (lba_of s.geometry q) e)) ∙ none (due_at s b y) refl
+          go : (target : Target) → (item_at (from_at s.starts q) (us_of s q) n).target ≡ target → is_due s b (home_of s.geometry (command_of plain.form s.geometry q n (item_at (from_at s.starts q) (us_of s q) n))) ≡ false
+          go (AtPlace r) e = ap (is_due s b) (home-place s.geometry q r (command_of plain.form s.geometry q n (item_at (from_at s.starts q) (us_of s q) n)) own (ap (lba_of s.geometry q) e))
+          go (AtHome y) e = ap (is_due s b) (home-home s.geometry y (command_of plain.form s.geometry q n (item_at (from_at s.starts q) (us_of s q) n)) (ap (lba_of s.geometry q) e)) ∙ none (due_at s b y) refl
             where
               none : (o : Option (List ℕ)) → due_at s b y ≡ o → is_some o ≡ false
               none None due = refl
@@ -209,5 +209,5 @@ module _ (s : State) (f : Facts plain s) (b : ℕ) (reached : b ≤ front_of s) 
                   let late = posted_late k q (us_of s q) p f.log side n held in
                   let z = (direct-zone k q (us_of s q) n y f.log (late_direct k q (us_of s q) p f.log side n y late.0 e)).0 in
                   let kept : Certainly p (home_index s.geometry y) content = subst (λ w. Certainly (port_of s w) (home_index s.geometry y) content) z (due_kept may y content due) in
-                  let lba : (command_with n p.posted).lba ≡ home_lba s.geometry y = ap (λ (c : Command). c.lba) (own_with s.geometry q (from_at s.starts q) n (us_of s q) p.posted side.commands.posted held) ∙ ap (lba_of s.geometry q) e in
+                  let lba : (command_with n p.posted).lba ≡ home_lba s.geometry y = ap (λ (c : Command). c.lba) (own_with plain.form s.geometry q (from_at s.starts q) n (us_of s q) p.posted side.commands.posted held) ∙ ap (lba_of s.geometry q) e in
                   absurd (apart_with p (home_index s.geometry y) n p.posted kept.certain.apart held (ap (index_of p) lba ∙ (index-zone s.geometry q y p side.port z).0))

@@ -3,17 +3,19 @@ use Rattle.std.proofs.Common.{◌≡◌, ◌≢◌, ℕ, ◌+◌, ◌<◌, ◌�
 use Rattle.std.proofs.lemmas.Bool.{cases_lt, cases_eq, cases_order, eq-eqb, false≢true}
 use Rattle.std.proofs.lemmas.List.{length-set}
 use Rattle.std.specs.List.{remove}
-use Rattle.mq_blocks.specs.Drive.{PortState, IsFlushed, IsApartFrom, index_of, staged_end, after_ring, depth}
+use Rattle.mq_blocks.specs.Drive.{PortState, IsFlushed, IsApartFrom, index_of, staged_end, after_ring}
+use Rattle.mq_blocks.specs.Limits.{depth}
 use Rattle.mq_blocks.specs.Geometry.{zone_of}
 use Rattle.mq_blocks.specs.declared.command.Command.{Command}
 use Rattle.mq_ledger.specs.History.{last, upto, map_after}
-use Rattle.mq_ledger.specs.Items.{Item, Target, AtPlace, AtHome, command_of, lba_of, end_of, item_at, IsEnd}
+use Rattle.mq_ledger.specs.Items.{Item, Target, AtPlace, AtHome, command_of, lba_of, end_of, item_at, IsEnd, bytes_of}
 use Rattle.mq_ledger.specs.KnownJournal.{KnownJournal, LogOk, front}
 use Rattle.mq_ledger.specs.Sides.{Certainly, IsDone, SideOk, home_index, place_index, holds_count}
 use Rattle.mq_ledger.specs.declared.tx.Tx.{Tx}
 use Rattle.mq_ledger.proofs.Items.{below-at, places_apart}
 use Rattle.mq_core.specs.Events.{MayRing, MayEnd, index_with, command_with, complete_side, fail_side}
 use Rattle.mq_blocks.proofs.DriveCounts.{counted_append, counted_remove}
+use Rattle.mq_blocks.proofs.Ports.{parts_of, port-along}
 use Rattle.mq_core.proofs.SidesCommands.{count-with, own_with, own_remove, own_append, counted_next, count_range, from_append, left_out, taken_out, held_append, held_remove, next_holds, apart_own}
 use Rattle.mq_core.proofs.EventsPorts.{index-place, index-zone, zone-apart, certainly_ring, certainly_complete, certainly_fail, certainly_new}
 use Rattle.mq_core.proofs.KnownJournalSources.{DirectIn, direct_in, direct-zone, unneeded, clash}
@@ -90,7 +92,7 @@ module _ (k : KnownJournal) (q : ℕ) (txs : List Tx) (p : PortState) (log : Log
       ((omega (arith, r.0, o.rung), omega (arith, r.1, o.drawn)), r.0)
 
   pending_apart : (index : ℕ) → ((n : ℕ) → IsLate n → p.doorbell ≤ n → block_of n ≢ index) → IsApartFrom p index p.pending
-  pending_apart index each = apart_own p k.geometry q (k.from q) txs index p.pending s.commands.pending (λ n held. let l = rung_late n held in each n l.0 l.1)
+  pending_apart index each = apart_own k.entries.form p k.geometry q (k.from q) txs index p.pending s.commands.pending (λ n held. let l = rung_late n held in each n l.0 l.1)
 
   -- what is done after the ring was done before it
   done_before : (c : ℕ) → IsDone (after_ring p) c → IsDone p c
@@ -124,17 +126,7 @@ module _ (k : KnownJournal) (q : ℕ) (txs : List Tx) (p : PortState) (log : Log
       record {
         queue = s.queue;
         part = s.part;
-        port = record {
-          queue = s.port.queue;
-          area_first = s.port.area_first;
-          area_size = s.port.area_size;
-          homes_first = s.port.homes_first;
-          homes_size = s.port.homes_size;
-          flushed = s.port.flushed;
-          staged = s.port.staged;
-          blocks = s.port.blocks;
-          certain = s.port.certain;
-        };
+        port = port-along s.port refl;
         order = record {
           head_low = o.head_low;
           stored = o.stored;
@@ -158,7 +150,7 @@ module _ (k : KnownJournal) (q : ℕ) (txs : List Tx) (p : PortState) (log : Log
         commands = record {
           pending = tt;
           pending_counts = tt;
-          posted = own_append k.geometry q (k.from q) txs p.posted p.pending s.commands.posted s.commands.pending;
+          posted = own_append k.entries.form k.geometry q (k.from q) txs p.posted p.pending s.commands.posted s.commands.pending;
           posted_counts = counted_append p.stored_head p.doorbell (staged_end p) p.posted p.pending o.rung (omega arith) s.commands.posted_counts (counted_next p.doorbell p.pending s.commands.pending_counts);
           failed = s.commands.failed;
           failed_counts = s.commands.failed_counts;
@@ -193,13 +185,13 @@ module _ (k : KnownJournal) (q : ℕ) (txs : List Tx) (p : PortState) (log : Log
     abbrev left : List Command
     left = remove p.posted (index_with n p.posted)
 
-    own : command_with n p.posted ≡ command_of k.geometry q n (at n)
-    own = own_with k.geometry q (k.from q) n txs p.posted s.commands.posted may
+    own : command_with n p.posted ≡ command_of k.entries.form k.geometry q n (at n)
+    own = own_with k.entries.form k.geometry q (k.from q) n txs p.posted s.commands.posted may
 
     -- the other posted commands write elsewhere
     left_apart : (index : ℕ) → ((d : ℕ) → IsLate d → n ≢ d → block_of d ≢ index) → IsApartFrom p index left
     left_apart index each =
-        apart_own p k.geometry q (k.from q) txs index left (own_remove k.geometry q (k.from q) txs (index_with n p.posted) p.posted s.commands.posted) (λ d held.
+        apart_own k.entries.form p k.geometry q (k.from q) txs index left (own_remove k.entries.form k.geometry q (k.from q) txs (index_with n p.posted) p.posted s.commands.posted) (λ d held.
         each d (posted_late d (held_remove d (index_with n p.posted) p.posted held)).0 (λ e. false≢true (sym (taken_out p.stored_head p.doorbell n p.posted s.commands.posted_counts) ∙ ap (λ m. holds_count m left) e ∙ held)))
 
     ended : PortState
@@ -210,7 +202,7 @@ module _ (k : KnownJournal) (q : ℕ) (txs : List Tx) (p : PortState) (log : Log
     done_then c other d = record { rung = d.rung; posted = left_out n c p.posted other d.posted; failed = d.failed }
 
     -- what it wrote
-    new : (index : ℕ) → block_of n ≡ index → index < k.geometry.area + k.geometry.zone → ((d : ℕ) → IsLate d → n ≢ d → block_of d ≢ index) → Certainly (complete_side n p) index (at n).content
+    new : (index : ℕ) → block_of n ≡ index → index < k.geometry.area + k.geometry.zone → ((d : ℕ) → IsLate d → n ≢ d → block_of d ≢ index) → Certainly (complete_side n p) index (bytes_of k.entries.form (at n).content)
     new index is small each =
         let long = s.port.certain in
         let wide = s.port.blocks in
@@ -224,17 +216,7 @@ module _ (k : KnownJournal) (q : ℕ) (txs : List Tx) (p : PortState) (log : Log
         record {
           queue = s.queue;
           part = s.part;
-          port = record {
-            queue = s.port.queue;
-            area_first = s.port.area_first;
-            area_size = s.port.area_size;
-            homes_first = s.port.homes_first;
-            homes_size = s.port.homes_size;
-            flushed = s.port.flushed;
-            staged = s.port.staged;
-            blocks = length-set p.blocks (index_of p (command_with n p.posted).lba) (Some (command_with n p.posted).block) ∙ s.port.blocks;
-            certain = length-set p.certain (index_of p (command_with n p.posted).lba) true ∙ s.port.certain;
-          };
+          port = port-along s.port (λ i. record (parts_of p) { blocks = length-set p.blocks (index_of p (command_with n p.posted).lba) (Some (command_with n p.posted).block) i; certain = length-set p.certain (index_of p (command_with n p.posted).lba) true i });
           order = record { head_low = o.head_low; stored = o.stored; rung = o.rung; flushed = o.flushed; staged = o.staged; drawn = o.drawn; room = o.room };
           limit = s.limit;
           ends = record { head = s.ends.head; stored = s.ends.stored; doorbell = s.ends.doorbell };
@@ -242,7 +224,7 @@ module _ (k : KnownJournal) (q : ℕ) (txs : List Tx) (p : PortState) (log : Log
           commands = record {
             pending = s.commands.pending;
             pending_counts = s.commands.pending_counts;
-            posted = own_remove k.geometry q (k.from q) txs (index_with n p.posted) p.posted s.commands.posted;
+            posted = own_remove k.entries.form k.geometry q (k.from q) txs (index_with n p.posted) p.posted s.commands.posted;
             posted_counts = counted_remove p.stored_head p.doorbell (index_with n p.posted) p.posted s.commands.posted_counts;
             failed = s.commands.failed;
             failed_counts = s.commands.failed_counts;
@@ -286,21 +268,11 @@ module _ (k : KnownJournal) (q : ℕ) (txs : List Tx) (p : PortState) (log : Log
         let o = s.order in
         let l = posted_late n may in
         let count : (command_with n p.posted).count ≡ n = count-with n p.posted may in
-        let mine : command_with n p.posted ≡ command_of k.geometry q (command_with n p.posted).count (at (command_with n p.posted).count) = own ∙ ap (λ m. command_of k.geometry q m (at m)) (sym count) in
+        let mine : command_with n p.posted ≡ command_of k.entries.form k.geometry q (command_with n p.posted).count (at (command_with n p.posted).count) = own ∙ ap (λ m. command_of k.entries.form k.geometry q m (at m)) (sym count) in
         record {
           queue = s.queue;
           part = s.part;
-          port = record {
-            queue = s.port.queue;
-            area_first = s.port.area_first;
-            area_size = s.port.area_size;
-            homes_first = s.port.homes_first;
-            homes_size = s.port.homes_size;
-            flushed = s.port.flushed;
-            staged = s.port.staged;
-            blocks = s.port.blocks;
-            certain = length-set p.certain (index_of p (command_with n p.posted).lba) false ∙ s.port.certain;
-          };
+          port = port-along s.port (λ i. record (parts_of p) { certain = length-set p.certain (index_of p (command_with n p.posted).lba) false i });
           order = record { head_low = o.head_low; stored = o.stored; rung = o.rung; flushed = o.flushed; staged = o.staged; drawn = o.drawn; room = o.room };
           limit = s.limit;
           ends = record { head = s.ends.head; stored = s.ends.stored; doorbell = s.ends.doorbell };
@@ -308,9 +280,9 @@ module _ (k : KnownJournal) (q : ℕ) (txs : List Tx) (p : PortState) (log : Log
           commands = record {
             pending = s.commands.pending;
             pending_counts = s.commands.pending_counts;
-            posted = own_remove k.geometry q (k.from q) txs (index_with n p.posted) p.posted s.commands.posted;
+            posted = own_remove k.entries.form k.geometry q (k.from q) txs (index_with n p.posted) p.posted s.commands.posted;
             posted_counts = counted_remove p.stored_head p.doorbell (index_with n p.posted) p.posted s.commands.posted_counts;
-            failed = own_append k.geometry q (k.from q) txs p.failed (command_with n p.posted ∷ []) s.commands.failed (mine, tt);
+            failed = own_append k.entries.form k.geometry q (k.from q) txs p.failed (command_with n p.posted ∷ []) s.commands.failed (mine, tt);
             failed_counts = from_append p.stored_head p.failed (command_with n p.posted ∷ []) s.commands.failed_counts (omega (arith, count, l.0.0), tt);
           };
           area = record { fits = s.area.fits; limit = s.area.limit; holds = λ c place low d target. certainly_fail p n _ _ may (s.area.holds c place low (done_still c d) target) };

@@ -2,7 +2,8 @@
 use Rattle.std.proofs.Common.{◌≡◌, ◌≢◌, ℕ, ◌+◌, ◌-◌, ◌<◌, ◌≤◌, ◌%◌, List, [], ◌∷◌, ◌++◌, length, Some, sym, refl, ap, ◌∙◌, inl, inr, arith}
 use Rattle.std.proofs.lemmas.Bool.{cases_eq}
 use Rattle.std.proofs.lemmas.List.{length-set, get_or-set_same, get_or-set_other, length-append}
-use Rattle.mq_blocks.specs.Drive.{PortState, IsFlushed, index_of, staged_end, after_flush, after_store_head, depth}
+use Rattle.mq_blocks.specs.Drive.{PortState, IsFlushed, index_of, staged_end, after_flush, after_store_head}
+use Rattle.mq_blocks.specs.Limits.{depth}
 use Rattle.mq_blocks.specs.declared.command.Command.{Command}
 use Rattle.mq_ledger.specs.Items.{Item, said_of, command_of, item_at}
 use Rattle.mq_ledger.specs.KnownJournal.{KnownJournal, LogOk}
@@ -10,6 +11,7 @@ use Rattle.mq_ledger.specs.Sides.{Certainly, IsRing, IsDone, IsArea, SideOk, flu
 use Rattle.mq_ledger.specs.declared.tx.Tx.{Tx}
 use Rattle.mq_core.specs.Events.{stage_side, MayStage, MayStoreHead}
 use Rattle.mq_blocks.proofs.DriveCounts.{counted_from}
+use Rattle.mq_blocks.proofs.Ports.{parts_of, port-along}
 use Rattle.mq_core.proofs.SidesCommands.{own_append, next_append}
 use Rattle.mq_core.proofs.EventsPorts.{certainly_along}
 use Rattle.mq_core.proofs.KnownJournalSources.{from_of, may-say}
@@ -53,7 +55,7 @@ module _ (k : KnownJournal) (q : ℕ) (txs : List Tx) (p : PortState) (log : Log
   entry = k.entries.entry (staged_end p % depth) (said_of k.geometry q item)
 
   abbrev command : Command
-  command = command_of k.geometry q (staged_end p) item
+  command = command_of k.entries.form k.geometry q (staged_end p) item
 
   abbrev staged : PortState
   staged = stage_side k.entries k.geometry q (k.from q) txs p
@@ -102,17 +104,7 @@ module _ (k : KnownJournal) (q : ℕ) (txs : List Tx) (p : PortState) (log : Log
       record {
         queue = s.queue;
         part = s.part;
-        port = record {
-          queue = s.port.queue;
-          area_first = s.port.area_first;
-          area_size = s.port.area_size;
-          homes_first = s.port.homes_first;
-          homes_size = s.port.homes_size;
-          flushed = s.port.flushed;
-          staged = length-set p.staged (staged_end p % depth) entry ∙ s.port.staged;
-          blocks = s.port.blocks;
-          certain = s.port.certain;
-        };
+        port = port-along s.port (λ i. record (parts_of p) { staged = length-set p.staged (staged_end p % depth) entry i });
         order = record {
           head_low = o.head_low;
           stored = o.stored;
@@ -126,7 +118,7 @@ module _ (k : KnownJournal) (q : ℕ) (txs : List Tx) (p : PortState) (log : Log
         ends = record { head = s.ends.head; stored = s.ends.stored; doorbell = s.ends.doorbell };
         ring = ring_staged;
         commands = record {
-          pending = own_append k.geometry q (k.from q) txs p.pending (command ∷ []) s.commands.pending (refl, tt);
+          pending = own_append k.entries.form k.geometry q (k.from q) txs p.pending (command ∷ []) s.commands.pending (refl, tt);
           pending_counts = next_append p.doorbell p.pending command s.commands.pending_counts refl;
           posted = s.commands.posted;
           posted_counts = s.commands.posted_counts;
@@ -157,17 +149,7 @@ side_flush k q txs p s =
     record {
       queue = s.queue;
       part = s.part;
-      port = record {
-        queue = s.port.queue;
-        area_first = s.port.area_first;
-        area_size = s.port.area_size;
-        homes_first = s.port.homes_first;
-        homes_size = s.port.homes_size;
-        flushed = s.port.staged;
-        staged = s.port.staged;
-        blocks = s.port.blocks;
-        certain = s.port.certain;
-      };
+      port = port-along s.port (λ i. record (parts_of p) { flushed = (s.port.staged ∙ sym s.port.flushed) i });
       order = record {
         head_low = omega (arith, o.head_low, o.stored);
         stored = omega arith;
@@ -214,17 +196,7 @@ side_store_head k q txs p h s may =
     record {
       queue = s.queue;
       part = s.part;
-      port = record {
-        queue = s.port.queue;
-        area_first = s.port.area_first;
-        area_size = s.port.area_size;
-        homes_first = s.port.homes_first;
-        homes_size = s.port.homes_size;
-        flushed = s.port.flushed;
-        staged = s.port.staged;
-        blocks = s.port.blocks;
-        certain = s.port.certain;
-      };
+      port = port-along s.port refl;
       order = record {
         head_low = o.head_low;
         stored = omega (arith, o.stored, may.above);

@@ -16,6 +16,7 @@ use Rattle.mq_ledger.specs.KnownJournal.{KnownJournal, LogOk, front}
 use Rattle.mq_ledger.specs.Sides.{Certainly, IsDone, SideOk, RootOk, home_index, place_index}
 use Rattle.mq_ledger.specs.declared.tx.Tx.{Tx}
 use Rattle.mq_blocks.proofs.JournalAmong.{apart-not_among}
+use Rattle.mq_blocks.proofs.Ports.{parts_of, port-along}
 use Rattle.mq_ledger.proofs.History.{last_at, last_settled, changes_direct}
 use Rattle.mq_core.specs.Events.{begin_home, end_home}
 use Rattle.mq_core.specs.Homes.{IsLoggedLast}
@@ -52,17 +53,7 @@ side_written k q txs p x blocks certain begun begins log s zone u els =
     record {
       queue = s.queue;
       part = s.part;
-      port = record {
-        queue = s.port.queue;
-        area_first = s.port.area_first;
-        area_size = s.port.area_size;
-        homes_first = s.port.homes_first;
-        homes_size = s.port.homes_size;
-        flushed = s.port.flushed;
-        staged = s.port.staged;
-        blocks = els.blocks_len ∙ s.port.blocks;
-        certain = els.certain_len ∙ s.port.certain;
-      };
+      port = port-along s.port (λ i. record (parts_of p) { blocks = els.blocks_len i; certain = els.certain_len i });
       order = record { head_low = o.head_low; stored = o.stored; rung = o.rung; flushed = o.flushed; staged = o.staged; drawn = o.drawn; room = o.room };
       limit = s.limit;
       ends = record { head = s.ends.head; stored = s.ends.stored; doorbell = s.ends.doorbell };
@@ -110,17 +101,7 @@ pub root_written : (k : KnownJournal) (p : PortState) (x : ℕ) (blocks : List (
 root_written k p x blocks certain begun begins log r zone block u els =
     let settled = last_settled k.base (front k) k.history x log.numbers u.high in
     record {
-      port = record {
-        queue = r.port.queue;
-        area_first = r.port.area_first;
-        area_size = r.port.area_size;
-        homes_first = r.port.homes_first;
-        homes_size = r.port.homes_size;
-        flushed = r.port.flushed;
-        staged = r.port.staged;
-        blocks = els.blocks_len ∙ r.port.blocks;
-        certain = els.certain_len ∙ r.port.certain;
-      };
+      port = port-along r.port (λ i. record (parts_of p) { blocks = els.blocks_len i; certain = els.certain_len i });
       posted = r.posted;
       bases = r.bases;
       homes = λ y v content inside z due there m.

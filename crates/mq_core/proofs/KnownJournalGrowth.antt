@@ -8,6 +8,7 @@ use Rattle.mq_blocks.specs.Machine.{Map, write_of}
 use Rattle.mq_blocks.specs.declared.command.Command.{Command}
 use Rattle.mq_blocks.specs.declared.geometry.Geometry.{Geometry}
 use Rattle.mq_ledger.specs.History.{writes, map_after, last, last_logged, is_exposed, upto, of_queue, part_of, IsAt, IsPart}
+use Rattle.mq_blocks.specs.Descriptor.{DescriptorForm}
 use Rattle.mq_ledger.specs.Items.{command_of, end_of, next, item_at, IsEnd, descriptor_blocks}
 use Rattle.mq_ledger.specs.KnownJournal.{KnownJournal, LogOk, IsPlaced, front, draw_known, MayDraw}
 use Rattle.mq_ledger.specs.Sides.{AreOwn, AreHome, SideOk, RootOk, holds_count}
@@ -165,11 +166,11 @@ log_drawn k t log may new =
 
 -- ---- a port's own draw
 
-own_along : (g : Geometry) (q from : ℕ) (txs ws : List Tx) (cs : List Command) → ((n : ℕ) → holds_count n cs ≡ true → item_at from ws n ≡ item_at from txs n) → AreOwn g q from txs cs → AreOwn g q from ws cs
-own_along g q from txs ws [] same own = tt
-own_along g q from txs ws (c ∷ cs) same own = (
-  own.0 ∙ ap (λ i. command_of g q c.count i) (sym (same c.count (rw (Rattle.std.proofs.lemmas.Bool.eq-eqb c.count c.count refl) refl))),
-  own_along g q from txs ws cs (λ n held. same n (elim (cases_Bool (eqb c.count n)) [
+own_along : (form : DescriptorForm) (g : Geometry) (q from : ℕ) (txs ws : List Tx) (cs : List Command) → ((n : ℕ) → holds_count n cs ≡ true → item_at from ws n ≡ item_at from txs n) → AreOwn form g q from txs cs → AreOwn form g q from ws cs
+own_along form g q from txs ws [] same own = tt
+own_along form g q from txs ws (c ∷ cs) same own = (
+  own.0 ∙ ap (λ i. command_of form g q c.count i) (sym (same c.count (rw (Rattle.std.proofs.lemmas.Bool.eq-eqb c.count c.count refl) refl))),
+  own_along form g q from txs ws cs (λ n held. same n (elim (cases_Bool (eqb c.count n)) [
     | inl e ↦ rw e refl
     | inr e ↦ rw e held
   ])) own.1,
@@ -211,12 +212,12 @@ side_extends k q t txs p part new s room =
         waits = λ c low high. rw (same c (omega (arith, o.drawn))) (s.ring.waits c low high);
       };
       commands = record {
-        pending = own_along k.geometry q (k.from q) txs (t ∷ txs) p.pending (λ n held.
+        pending = own_along k.entries.form k.geometry q (k.from q) txs (t ∷ txs) p.pending (λ n held.
             same n (omega (arith, (count_range p.doorbell (staged_end p) n p.pending (counted_next p.doorbell p.pending s.commands.pending_counts) held).1, o.drawn))) s.commands.pending;
         pending_counts = s.commands.pending_counts;
-        posted = own_along k.geometry q (k.from q) txs (t ∷ txs) p.posted (λ n held. same n (omega (arith, (count_range p.stored_head p.doorbell n p.posted s.commands.posted_counts held).1, rung))) s.commands.posted;
+        posted = own_along k.entries.form k.geometry q (k.from q) txs (t ∷ txs) p.posted (λ n held. same n (omega (arith, (count_range p.stored_head p.doorbell n p.posted s.commands.posted_counts held).1, rung))) s.commands.posted;
         posted_counts = s.commands.posted_counts;
-        failed = subst (λ cs. AreOwn k.geometry q (k.from q) (t ∷ txs) cs) (sym room.failed) tt;
+        failed = subst (λ cs. AreOwn k.entries.form k.geometry q (k.from q) (t ∷ txs) cs) (sym room.failed) tt;
         failed_counts = s.commands.failed_counts;
       };
       area = record {

@@ -7,17 +7,19 @@ pub mod EventsSideCommands
 pub mod KnownJournalGrowth
 pub mod Homes
 pub mod HistoryBases
-mod StatePorts
+pub mod Roots
+pub mod StatePorts
 pub mod StateEvents
 pub mod StateBases
-mod ItemsGoodness
-mod ItemsReading
+pub mod ItemsGoodness
+pub mod ItemsReading
 pub mod StateCuts
 pub mod StateSafe
 pub mod MachineFacts
 mod MachineLifts
 mod Within
 mod Settled
+pub mod HomesWritten
 pub mod DriveHomeWrites
 mod EventsTellings
 mod HomesCalls

@@ -4,6 +4,8 @@ use Rattle.std.proofs.Common.{◌≡◌, ℕ, List, [], ◌∷◌, length, None,
 use Rattle.std.proofs.lemmas.Bool.{false≢true}
 use Rattle.std.proofs.lemmas.List.{length-replicate}
 use Rattle.std.proofs.lemmas.List.Elements.{All-cons, All-nil}
+use Rattle.mq_blocks.specs.Descriptor.{further_for}
+use Rattle.mq_blocks.specs.Geometry.{write_limit, shaped}
 use Rattle.mq_blocks.specs.Blocks.{filled}
 use Rattle.mq_blocks.specs.declared.geometry.Geometry.{Geometry}
 use Rattle.mq_ledger.specs.KnownJournal.{IsTx}
@@ -14,19 +16,7 @@ use Rattle.mq_core.specs.Machine.{Clear, Event, Draw, Stage, Flush, Ring, Comple
 use Rattle.mq_core.specs.Start.{start_state}
 
 abbrev pub tiny : Geometry
-tiny = record {
-  queues = 2;
-  area = 1024;
-  meta = 5;
-  zone = 1;
-  queues_low = lit≤ tt;
-  queues_high = lit≤ tt;
-  area_low = lit≤ tt;
-  area_high = lit≤ tt;
-  meta_low = lit≤ tt;
-  zone_low = lit≤ tt;
-  homes_high = lit≤ tt;
-}
+tiny = shaped 2 1024 5 1 (lit≤ tt, lit≤ tt) (lit≤ tt, lit≤ tt) (lit≤ tt, lit≤ tt, lit≤ tt)
 
 abbrev first : Tx
 first = record { number = 1; queue = 1; logged = (0, filled 1) ∷ []; direct = []; revoked = []; freed = [] }
@@ -45,6 +35,7 @@ unfolding filled
 long n = length-replicate 4096 n
 
 first_form : IsTx tiny first
+unfolding further_for write_limit
 first_form = record {
   queue = lit< tt;
   logged = (lit≤ tt, lit< tt, tt);
@@ -60,6 +51,7 @@ first_form = record {
 }
 
 second_form : IsTx tiny second
+unfolding further_for write_limit
 second_form = record {
   queue = lit< tt;
   logged = (lit≤ tt, lit< tt, tt);
@@ -78,6 +70,7 @@ not_first : (t : Tx) → first ≡ t → t.queue ≡ 0 → ⊥
 not_first t same own = (let queue : 1 ≡ t.queue = ap (λ (u : Tx). u.queue) same in omega arith)
 
 allowed : AreAllowed plain events at_start
+unfolding further_for write_limit
 allowed = (
   record { queue = lit< tt; each = λ t ts at own undone. absurd at },
   (
@@ -137,6 +130,7 @@ allowed = (
 )
 
 front_there : front_of (run plain events at_start) ≡ 0
+unfolding further_for write_limit
 front_there = refl
 
 refused : IsAllowed plain (Acknowledge 2) (run plain events at_start) → ⊥

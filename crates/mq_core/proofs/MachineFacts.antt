@@ -69,11 +69,11 @@ side_start e s q own word p =
         waits = λ c low high. absurd (omega arith);
       };
       commands = record {
-        pending = subst (λ cs. AreOwn s.geometry q (from_at s.starts q) [] cs) (sym p.pending) tt;
+        pending = subst (λ cs. AreOwn e.form s.geometry q (from_at s.starts q) [] cs) (sym p.pending) tt;
         pending_counts = subst (λ cs. AreNext (port_at s.ports q).doorbell cs) (sym p.pending) tt;
-        posted = subst (λ cs. AreOwn s.geometry q (from_at s.starts q) [] cs) (sym p.posted) tt;
+        posted = subst (λ cs. AreOwn e.form s.geometry q (from_at s.starts q) [] cs) (sym p.posted) tt;
         posted_counts = subst (λ cs. AreCounted (port_at s.ports q).stored_head (port_at s.ports q).doorbell cs) (sym p.posted) tt;
-        failed = subst (λ cs. AreOwn s.geometry q (from_at s.starts q) [] cs) (sym p.failed) tt;
+        failed = subst (λ cs. AreOwn e.form s.geometry q (from_at s.starts q) [] cs) (sym p.failed) tt;
         failed_counts = subst (λ cs. AreFrom (port_at s.ports q).stored_head cs) (sym p.failed) tt;
       };
       area = record {
@@ -92,6 +92,7 @@ empty_facts e s st =
     let base = st.base in
     let stored = st.stored_base in
     record {
+      form = st.form;
       log = record {
         entries = st.entries;
         numbers = tt;

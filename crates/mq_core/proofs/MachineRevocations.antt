@@ -4,6 +4,8 @@ use Rattle.std.proofs.Common.{◌≡◌, ◌≢◌, ◌<◌, ◌≤◌, ℕ, tru
 use Rattle.std.proofs.lemmas.Bool.{cases_Bool, cases_eq, cases_lt, eqb-true, false≢true}
 use Rattle.std.proofs.lemmas.List.{get_or-set_other, get_or-replicate, get_or_past, length-replicate}
 use Rattle.std.proofs.lemmas.List.Elements.{All-cons, All-nil}
+use Rattle.mq_blocks.specs.Descriptor.{further_for}
+use Rattle.mq_blocks.specs.Geometry.{write_limit, shaped}
 use Rattle.mq_blocks.specs.Blocks.{filled}
 use Rattle.mq_blocks.specs.Descriptor.{AreRising}
 use Rattle.mq_blocks.specs.Geometry.{zone_of}
@@ -23,19 +25,7 @@ use Rattle.mq_core.proofs.Start.{start_is}
 
 -- block 5 is one of the metadata region, and block 70 the zone of queue 1
 abbrev wide : Geometry
-wide = record {
-  queues = 2;
-  area = 1024;
-  meta = 69;
-  zone = 1;
-  queues_low = lit≤ tt;
-  queues_high = lit≤ tt;
-  area_low = lit≤ tt;
-  area_high = lit≤ tt;
-  meta_low = lit≤ tt;
-  zone_low = lit≤ tt;
-  homes_high = lit≤ tt;
-}
+wide = shaped 2 1024 69 1 (lit≤ tt, lit≤ tt) (lit≤ tt, lit≤ tt) (lit≤ tt, lit≤ tt, lit≤ tt)
 
 abbrev logs : Tx
 logs = record { number = 1; queue = 0; logged = (70, filled 1) ∷ []; direct = []; revoked = []; freed = [] }
@@ -96,6 +86,7 @@ unfolding after
 gone = refl
 
 logs_form : IsTx wide logs
+unfolding further_for write_limit
 logs_form = record {
   queue = lit< tt;
   logged = (lit≤ tt, lit< tt, tt);
@@ -111,6 +102,7 @@ logs_form = record {
 }
 
 frees_form : IsTx wide frees
+unfolding further_for write_limit
 frees_form = record {
   queue = lit< tt;
   logged = (lit≤ tt, lit< tt, tt);
@@ -130,6 +122,7 @@ not_other : (u t : Tx) → u ≡ t → u.queue ≡ 0 → t.queue ≡ 1 → ⊥
 not_other u t same own other = (let queue : u.queue ≡ t.queue = ap (λ (v : Tx). v.queue) same in omega arith)
 
 first_may : AreAllowed plain first_done at_start
+unfolding further_for write_limit
 first_may = (
   record { queue = lit< tt; each = λ t ts at own undone. absurd at },
   (
@@ -155,6 +148,7 @@ first_may = (
 )
 
 logs_done : (t : Tx) (ts : List Tx) → ((logs ≡ t) × ([] ≡ ts)) ⊎ ⊥ → is_done (0 ∷ 0 ∷ []) (run plain first_done at_start).ports t ts ≡ false → ⊥
+unfolding further_for write_limit
 logs_done t ts at undone = elim at [
   | inl is ↦
       let here : is_done (0 ∷ 0 ∷ []) (run plain first_done at_start).ports logs [] ≡ false = subst (λ u. is_done (0 ∷ 0 ∷ []) (run plain first_done at_start).ports u [] ≡ false) (sym is.0) (subst (λ txs. is_done (0 ∷ 0 ∷ []) (run plain first_done at_start).ports t txs ≡ false) (sym is.1) undone) in
@@ -163,6 +157,7 @@ logs_done t ts at undone = elim at [
 ]
 
 second_may : AreAllowed plain second_rung (run plain first_done at_start)
+unfolding further_for write_limit
 second_may = (
   record { queue = lit< tt; each = λ t ts at own undone. absurd (logs_done t ts at undone) },
   (
@@ -196,6 +191,7 @@ second_may = (
 )
 
 done_may : AreAllowed plain second_done (run plain rung at_start)
+unfolding further_for write_limit
 done_may = ((lit< tt, refl), ((lit< tt, refl), ((lit< tt, record { is_end = refl; above = lit≤ tt; rung = lit≤ tt; posted = tt; failed = tt }), (lit< tt, tt))))
 
 run_may : AreAllowed plain done at_start
@@ -204,6 +200,7 @@ run_may = allowed-then rung second_done at_start (allowed-then first_done second
 -- ---- the direct write
 
 form : (revoked : List ℕ) → AreRising 0 71 revoked → ((x : ℕ) → is_among x revoked ≡ true → is_among x (70 ∷ []) ≡ true) → IsTx wide (writes_directly revoked)
+unfolding further_for write_limit
 form revoked rising within = record {
   queue = lit< tt;
   logged = tt;
@@ -220,6 +217,7 @@ form revoked rising within = record {
 
 -- allowed once the free is done
 allowed : IsAllowed plain (Draw (writes_directly (70 ∷ []))) (run plain done at_start)
+unfolding further_for write_limit
 allowed = (
   record {
     form = form (70 ∷ []) (lit≤ tt, lit< tt, tt) (λ x e. e);
@@ -239,6 +237,7 @@ lawful : IsAlwaysLawful plain (done ++ Draw (writes_directly (70 ∷ [])) ∷ []
 lawful = run_is_lawful plain at_start (done ++ Draw (writes_directly (70 ∷ [])) ∷ []) (start_is wide blocks_at_start refl 0 (lit≤ tt)) (allowed-then done (Draw (writes_directly (70 ∷ [])) ∷ []) at_start run_may (allowed, tt))
 
 refused_before : IsAllowed plain (Draw (writes_directly (70 ∷ []))) (run plain rung at_start) → ⊥
+unfolding further_for write_limit
 refused_before may = (let settled : 2 ≤ 1 = may.0.settled 70 refl in omega arith)
 
 refused_unrevoked : IsAllowed plain (Draw (writes_directly [])) (run plain done at_start) → ⊥
@@ -267,6 +266,7 @@ in_first x block there = elim (cases_Bool (eqb 70 x)) [
 ]
 
 raised_may : AreAllowed plain raised (run plain done at_start)
+unfolding further_for write_limit
 raised_may = (
   record {
     above = lit≤ tt;
@@ -280,6 +280,7 @@ raised_may = (
 )
 
 allowed_unrevoked : IsAllowed plain (Draw (writes_directly [])) (run plain (done ++ raised) at_start)
+unfolding further_for write_limit
 allowed_unrevoked = (
   record {
     form = form [] tt (λ x e. absurd (false≢true e));

@@ -6,8 +6,10 @@ use Rattle.mq_blocks.specs.Drive.{PortState, AreFrom, AreCounted, IsApartFrom, i
 use Rattle.mq_blocks.proofs.DriveCounts.{counted_low, counted_high}
 use Rattle.mq_blocks.specs.declared.command.Command.{Command}
 use Rattle.mq_blocks.specs.declared.geometry.Geometry.{Geometry}
+use Rattle.mq_blocks.specs.Descriptor.{DescriptorForm}
 use Rattle.mq_ledger.specs.Items.{command_of, item_at}
-use Rattle.mq_ledger.specs.Sides.{AreOwn, AreNext, holds_count}
+use Rattle.mq_ledger.specs.KnownJournal.{KnownJournal}
+use Rattle.mq_ledger.specs.Sides.{AreOwn, AreNext, IsDone, SideOk, holds_count}
 use Rattle.mq_ledger.specs.declared.tx.Tx.{Tx}
 use Rattle.mq_core.specs.Events.{index_with, command_with}
 
@@ -19,22 +21,22 @@ count-with n (c ∷ cs) e = elim (cases_Bool (eqb c.count n)) [
   | inr other ↦ rw other (count-with n cs (rw other at e))
 ]
 
-pub own_with : (g : Geometry) (q from n : ℕ) (txs : List Tx) (cs : List Command) → AreOwn g q from txs cs → holds_count n cs ≡ true → command_with n cs ≡ command_of g q n (item_at from txs n)
-own_with g q from n txs [] own e = absurd (false≢true e)
-own_with g q from n txs (c ∷ cs) own e = elim (cases_Bool (eqb c.count n)) [
-  | inl same ↦ rw same (own.0 ∙ ap (λ m. command_of g q m (item_at from txs m)) (eqb-true _ _ same))
-  | inr other ↦ rw other (own_with g q from n txs cs own.1 (rw other at e))
+pub own_with : (form : DescriptorForm) (g : Geometry) (q from n : ℕ) (txs : List Tx) (cs : List Command) → AreOwn form g q from txs cs → holds_count n cs ≡ true → command_with n cs ≡ command_of form g q n (item_at from txs n)
+own_with form g q from n txs [] own e = absurd (false≢true e)
+own_with form g q from n txs (c ∷ cs) own e = elim (cases_Bool (eqb c.count n)) [
+  | inl same ↦ rw same (own.0 ∙ ap (λ m. command_of form g q m (item_at from txs m)) (eqb-true _ _ same))
+  | inr other ↦ rw other (own_with form g q from n txs cs own.1 (rw other at e))
 ]
 
-pub own_remove : (g : Geometry) (q from : ℕ) (txs : List Tx) (i : ℕ) (cs : List Command) → AreOwn g q from txs cs → AreOwn g q from txs (remove cs i)
-own_remove g q from txs zero [] own = tt
-own_remove g q from txs zero (c ∷ cs) own = own.1
-own_remove g q from txs (suc i) [] own = tt
-own_remove g q from txs (suc i) (c ∷ cs) own = (own.0, own_remove g q from txs i cs own.1)
+pub own_remove : (form : DescriptorForm) (g : Geometry) (q from : ℕ) (txs : List Tx) (i : ℕ) (cs : List Command) → AreOwn form g q from txs cs → AreOwn form g q from txs (remove cs i)
+own_remove form g q from txs zero [] own = tt
+own_remove form g q from txs zero (c ∷ cs) own = own.1
+own_remove form g q from txs (suc i) [] own = tt
+own_remove form g q from txs (suc i) (c ∷ cs) own = (own.0, own_remove form g q from txs i cs own.1)
 
-pub own_append : (g : Geometry) (q from : ℕ) (txs : List Tx) (bs cs : List Command) → AreOwn g q from txs bs → AreOwn g q from txs cs → AreOwn g q from txs (bs ++ cs)
-own_append g q from txs [] cs a b = b
-own_append g q from txs (c ∷ bs) cs a b = (a.0, own_append g q from txs bs cs a.1 b)
+pub own_append : (form : DescriptorForm) (g : Geometry) (q from : ℕ) (txs : List Tx) (bs cs : List Command) → AreOwn form g q from txs bs → AreOwn form g q from txs cs → AreOwn form g q from txs (bs ++ cs)
+own_append form g q from txs [] cs a b = b
+own_append form g q from txs (c ∷ bs) cs a b = (a.0, own_append form g q from txs bs cs a.1 b)
 
 -- ---- counts
 
@@ -65,6 +67,15 @@ below_from low n (c ∷ cs) f l = rw (ne_eqb c.count n (λ e. omega (arith, f.0)
 pub from_counted : (low high : ℕ) (cs : List Command) → AreCounted low high cs → AreFrom low cs
 from_counted low high [] k = tt
 from_counted low high (c ∷ cs) k = (k.0, from_counted low high cs (counted_low (c.count + 1) low high cs (omega (arith, k.0)) k.1.1))
+
+-- an entry below the stored head is done
+pub done_stored : (k : KnownJournal) (q : ℕ) (txs : List Tx) (p : PortState) (c : ℕ) → SideOk k q txs p → c < p.stored_head → IsDone p c
+done_stored k q txs p c s low =
+    record {
+      rung = omega (arith, s.order.rung);
+      posted = below_from p.stored_head c p.posted (from_counted p.stored_head p.doorbell p.posted s.commands.posted_counts) low;
+      failed = below_from p.stored_head c p.failed s.commands.failed_counts low;
+    }
 
 -- ---- one taken out
 
@@ -142,11 +153,11 @@ apart_with s k n (c ∷ cs) a e = elim (cases_Bool (eqb c.count n)) [
 ]
 
 -- own commands write blocks apart from one if their entries do
-pub apart_own : (s : PortState) (g : Geometry) (q from : ℕ) (txs : List Tx) (k : ℕ) (cs : List Command) → AreOwn g q from txs cs → ((n : ℕ) → holds_count n cs ≡ true → index_of s (command_of g q n (item_at from txs n)).lba ≢ k) → IsApartFrom s k cs
-apart_own s g q from txs k [] own each = tt
-apart_own s g q from txs k (c ∷ cs) own each = (
+pub apart_own : (form : DescriptorForm) (s : PortState) (g : Geometry) (q from : ℕ) (txs : List Tx) (k : ℕ) (cs : List Command) → AreOwn form g q from txs cs → ((n : ℕ) → holds_count n cs ≡ true → index_of s (command_of form g q n (item_at from txs n)).lba ≢ k) → IsApartFrom s k cs
+apart_own form s g q from txs k [] own each = tt
+apart_own form s g q from txs k (c ∷ cs) own each = (
   λ e. each c.count (rw (eq-eqb c.count c.count refl) refl) (ap (λ (b : Command). index_of s b.lba) (sym own.0) ∙ e),
-  apart_own s g q from txs k cs own.1 (λ n held. each n (elim (cases_Bool (eqb c.count n)) [
+  apart_own form s g q from txs k cs own.1 (λ n held. each n (elim (cases_Bool (eqb c.count n)) [
     | inl same ↦ rw same refl
     | inr other ↦ rw other held
   ])),

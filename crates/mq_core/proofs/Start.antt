@@ -13,6 +13,7 @@ use Rattle.mq_ledger.specs.Items.{Entries, AreRead}
 use Rattle.mq_ledger.specs.Plain.{plain}
 use Rattle.mq_ledger.specs.Sides.{AreHome, home_index, home_index_in}
 use Rattle.mq_ledger.specs.State.{IsStart, IsStartPort, port_at, from_at, known_of, start_map}
+use Rattle.mq_ledger.proofs.Written.{form_sound}
 use Rattle.mq_core.specs.Start.{blank, first_home, fresh_port, fresh_ports, start_state}
 
 -- what is written plainly is read again
@@ -119,6 +120,7 @@ module _ (g : Geometry) (blocks : List (Option (List ℕ))) (whole : length bloc
   start_is base low =
       record {
         entries = plain_read;
+        form = form_sound;
         history = refl;
         low = omega arith;
         base = refl;

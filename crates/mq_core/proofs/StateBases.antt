@@ -5,6 +5,7 @@ use Rattle.mq_blocks.specs.Drive.{PortState, IsApartFrom, holds_write}
 use Rattle.mq_blocks.specs.Geometry.{homes_of, home_lba, zone_of}
 use Rattle.mq_blocks.specs.Journal.{is_among}
 use Rattle.mq_blocks.specs.Machine.{Map, write_of, or_kept}
+use Rattle.mq_blocks.proofs.Ports.{parts_of, port-along}
 use Rattle.mq_ledger.specs.History.{blocks_of, changes, map_after, last, upto, of_queue, AreNumbered, IsAt}
 use Rattle.mq_ledger.specs.Items.{Entries}
 use Rattle.mq_ledger.specs.KnownJournal.{KnownJournal, front}
@@ -72,22 +73,13 @@ module _ (e : Entries) (s : State) (f : Facts e s) (base stored : ℕ) (flushed 
         | inr b ↦ (let is = eqb-true _ _ b in let r : stored ≤ front k = reached in omega arith)
       ] in
       record {
+        form = f.form;
         log = log_based k due base f.log up top low;
         ports = f.ports;
         marked = f.marked;
         sides = λ q own. side_based k due base f.log up top q (of_queue q s.history) (port_at s.ports q) (f.sides q own) (homes (Some q));
         root = record {
-          port = record {
-            queue = f.root.port.queue;
-            area_first = f.root.port.area_first;
-            area_size = f.root.port.area_size;
-            homes_first = f.root.port.homes_first;
-            homes_size = f.root.port.homes_size;
-            flushed = slots;
-            staged = f.root.port.staged;
-            blocks = f.root.port.blocks;
-            certain = f.root.port.certain;
-          };
+          port = port-along f.root.port (λ i. record (parts_of s.root) { flushed = (slots ∙ sym f.root.port.flushed) i });
           posted = f.root.posted;
           bases = (omega arith, order);
           homes = homes_root f.root (homes None);

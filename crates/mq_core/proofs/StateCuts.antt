@@ -1,32 +1,34 @@
 -- What a power cut leaves of a state that has the facts: words, entries, copies and home blocks.
-use Rattle.std.proofs.Common.{◌≡◌, ℕ, ◌+◌, ◌-◌, ◌*◌, ◌<◌, ◌≤◌, ◌%◌, ◌||◌, leb, eqb, Bool, true, false, List, [], ◌∷◌, length, is_some, Option, Some, None, cond, sym, refl, ap, subst, ◌∙◌, inl, inr, arith}
+use Rattle.std.proofs.Common.{◌≡◌, ℕ, ◌+◌, ◌-◌, ◌*◌, ◌<◌, ◌≤◌, ◌%◌, ltb, eqb, Bool, true, false, List, [], ◌∷◌, length, is_some, Option, Some, None, cond, sym, refl, ap, subst, ◌∙◌, inl, inr, arith}
 use Rattle.std.proofs.lemmas.List.{length-map}
-use Rattle.std.proofs.lemmas.Bool.{cases_lt, cases_Bool, eq-eqb, or_left, or_right, false≢true}
+use Rattle.std.proofs.lemmas.Bool.{cases_lt, cases_Bool, lt-ltb, eq-eqb, or_left, or_right, false≢true}
 use Rattle.mq_blocks.specs.Blocks.{block_at}
-use Rattle.mq_blocks.specs.Descriptor.{descriptor_bytes}
-use Rattle.mq_blocks.specs.Drive.{PortState, PortImage, IsImage, depth}
+use Rattle.mq_blocks.specs.Limits.{depth}
+use Rattle.mq_blocks.specs.Descriptor.{first_place, further_block, last_block}
+use Rattle.mq_blocks.specs.Drive.{PortState, PortImage, IsImage}
 use Rattle.mq_blocks.specs.Geometry.{homes_of, zone_of}
 use Rattle.mq_blocks.specs.Journal.{Shown, is_among, image_at, home_block, shown, logged_copy, or_else, stands}
 use Rattle.mq_blocks.specs.Machine.{Map, write_of, or_kept, after}
 use Rattle.mq_ledger.specs.History.{blocks_of, writes, changes, map_after, last, upto, of_queue, AreNumbered, IsAt}
-use Rattle.mq_ledger.specs.Items.{Entries, Item, AtPlace, AtHome, write_at, item_at, item_of, end_of, next, IsEnd, descriptor_for, descriptor_blocks}
+use Rattle.mq_ledger.specs.Items.{Entries, Item, AtPlace, AtHome, write_at, item_at, item_of, descriptor_item, end_of, next, IsEnd, place_for, descriptor_for, further_blocks, descriptor_blocks, bytes_of, reading_of}
 use Rattle.mq_ledger.specs.KnownJournal.{KnownJournal}
-use Rattle.mq_ledger.specs.Sides.{Certainly, IsDone, flushed_at, home_index, home_index_in}
+use Rattle.mq_ledger.specs.Sides.{Certainly, flushed_at, home_index, home_index_in}
 use Rattle.mq_ledger.specs.State.{State, Facts, AreImages, port_at, port_of, from_at, known_of, front_of, start_map}
 use Rattle.mq_ledger.specs.declared.tx.Tx.{Tx}
 use Rattle.mq_ledger.proofs.History.{upto-at, upto-past, upto_all, upto_newer, at_most, last_upto_bound, last-changed, last-same, last_le, length-upto, unchanged, among_written, unwritten, write_of-append}
-use Rattle.mq_ledger.proofs.Items.{item-logged, item-direct, item-commit, item_of_at}
+use Rattle.mq_ledger.proofs.Items.{item-logged, item-direct, item-descriptor, item-commit, item_of_at}
 use Rattle.mq_ledger.proofs.HistoryQueues.{IsFalling-of, at_own, end_above}
-use Rattle.mq_core.proofs.SidesCommands.{below_from, from_counted}
+use Rattle.mq_core.proofs.SidesCommands.{done_stored}
 use Rattle.mq_core.proofs.EventsPorts.{index-place, index-zone, index-root}
 use Rattle.mq_core.proofs.EventsSides.{slot_clear}
 use Rattle.mq_core.proofs.KnownJournalSources.{among_below}
 use Rattle.mq_core.proofs.StateEvents.{zone-queue}
 use Rattle.mq_core.proofs.StateBases.{due_homes}
-use Rattle.mq_core.proofs.ItemsReading.{rows, rows-above, rows-none, copies, writes_at, stands_home}
+use Rattle.mq_core.proofs.ItemsReading.{first-place, rows, rows-above, rows-none, copies, writes_at, stands_home}
 
 -- what is sure of the parts of an image together
 pub record IsCut (e : Entries) (s : State) (i : Shown) : Type 0 where
+  pub form : i.form ≡ e.form
   pub low : s.root.base ≤ i.base
   pub reached : i.base ≤ front_of s
   pub due : (x : ℕ) → (known_of e s).due x i.base ≡ true
@@ -41,9 +43,10 @@ pub record IsCut (e : Entries) (s : State) (i : Shown) : Type 0 where
 image_block : (p : PortState) (i : PortImage) (n : ℕ) (v : List ℕ) → IsImage p i → n < length p.blocks → Certainly p n v → block_at i.blocks n ≡ v
 image_block p i n v it within c = it.blocks n within c.certain ∙ c.is
 
-pub cut_of : (e : Entries) (s : State) (queues : List PortImage) (root : PortImage) → Facts e s → AreImages s queues root → IsCut e s (shown e.says s.geometry queues root)
+pub cut_of : (e : Entries) (s : State) (queues : List PortImage) (root : PortImage) → Facts e s → AreImages s queues root → IsCut e s (shown (reading_of e) s.geometry queues root)
 cut_of e s queues root f it =
     record {
+      form = refl;
       low = elim it.root_is.base [ inl w ↦ omega (arith, w) | inr w ↦ omega (arith, w, f.root.bases.1) ];
       reached = f.log.due 0 root.base (base_due 0);
       due = base_due;
@@ -85,10 +88,6 @@ cut_of e s queues root f it =
 
 -- ---- the transactions that an image shows whole
 
--- the transaction's entries stand below the image's head
-abbrev pub is_whole : State → Shown → Tx → List Tx → Bool
-is_whole s i t ts = leb t.number i.base || leb (end_of (from_at s.starts t.queue) (of_queue t.queue ts) + (writes t + descriptor_blocks t)) (i.head t.queue)
-
 pub record IsWhole (s : State) (i : Shown) (t : Tx) (ts : List Tx) : Type 0 where
   pub at : IsAt t ts s.history
   pub above : i.base < t.number
@@ -98,18 +97,7 @@ module _ (e : Entries) (s : State) (i : Shown) (f : Facts e s) (cut : IsCut e s 
   abbrev k : KnownJournal
   k = known_of e s
 
-  -- an entry below the stored head is done
-  done_stored : (q c : ℕ) → q < s.geometry.queues → c < (port_at s.ports q).stored_head → IsDone (port_at s.ports q) c
-  done_stored q c own low =
-      let side = f.sides q own in
-      let o = side.order in
-      record {
-        rung = omega (arith, o.rung);
-        posted = below_from (port_at s.ports q).stored_head c (port_at s.ports q).posted (from_counted _ _ (port_at s.ports q).posted side.commands.posted_counts) low;
-        failed = below_from (port_at s.ports q).stored_head c (port_at s.ports q).failed side.commands.failed_counts low;
-      }
-
-  pub held : (t : Tx) (ts : List Tx) (n place : ℕ) → IsWhole s i t ts → n < writes t + descriptor_blocks t → (item_of t (of_queue t.queue ts) n).target ≡ AtPlace place → i.area t.queue (place % s.geometry.area) ≡ (item_of t (of_queue t.queue ts) n).content
+  pub held : (t : Tx) (ts : List Tx) (n place : ℕ) → IsWhole s i t ts → n < writes t + descriptor_blocks t → (item_of t (of_queue t.queue ts) n).target ≡ AtPlace place → i.area t.queue (place % s.geometry.area) ≡ bytes_of e.form (item_of t (of_queue t.queue ts) n).content
   held t ts n place w l target =
       let q = t.queue in
       let from = from_at s.starts q in
@@ -119,21 +107,32 @@ module _ (e : Entries) (s : State) (i : Shown) (f : Facts e s) (cut : IsCut e s 
       let is = (item_of_at from q t ts s.history n refl w.at l).0 in
       let falling = (IsFalling-of s.base q s.history f.log.numbers).0 in
       let low = end_above q from s.root.base t (of_queue q ts) (of_queue q s.history) falling (at_own q t ts s.history w.at refl) (omega (arith, cut.low, w.above)) in
-      let done = done_stored q c own (omega (arith, cut.to_stored q own, w.below)) in
+      let done = done_stored k q (of_queue q s.history) (port_at s.ports q) c side (omega (arith, cut.to_stored q own, w.below)) in
       let there = side.area.holds c place (omega arith) done (ap (λ (v : Item). v.target) is ∙ target) in
       let small = (index-place s.geometry q place (port_at s.ports q) side.port own).1 in
-      cut.area q (place % s.geometry.area) _ own small there ∙ ap (λ (v : Item). v.content) is
+      cut.area q (place % s.geometry.area) _ own small there ∙ ap (λ (v : Item). bytes_of e.form v.content) is
 
-  pub held_descriptor : (t : Tx) (ts : List Tx) → IsWhole s i t ts → i.area t.queue ((next (of_queue t.queue ts) + length t.logged) % s.geometry.area) ≡ descriptor_bytes (descriptor_for t (of_queue t.queue ts))
+  pub held_descriptor : (t : Tx) (ts : List Tx) → IsWhole s i t ts → i.area t.queue (place_for t (of_queue t.queue ts) % s.geometry.area) ≡ last_block e.form e.form.version (descriptor_for t (of_queue t.queue ts))
   held_descriptor t ts w =
-      let is = item-commit t (of_queue t.queue ts) (writes t) (omega arith) in
-      held t ts (writes t) _ w (omega arith) (ap (λ (v : Item). v.target) is) ∙ ap (λ (v : Item). v.content) is
+      let is = item-commit t (of_queue t.queue ts) (writes t + further_blocks t) refl in
+      held t ts (writes t + further_blocks t) _ w (omega arith) (ap (λ (v : Item). v.target) is) ∙ ap (λ (v : Item). bytes_of e.form v.content) is
+
+  -- the further block stands right before it
+  pub held_further : (t : Tx) (ts : List Tx) → IsWhole s i t ts → further_blocks t ≡ 1 → i.area t.queue ((place_for t (of_queue t.queue ts) - 1) % s.geometry.area) ≡ further_block e.form e.form.version (descriptor_for t (of_queue t.queue ts))
+  held_further t ts w one =
+      let us = of_queue t.queue ts in
+      let zero : writes t - writes t ≡ 0 = omega arith in
+      let is = item-descriptor t us (writes t) (omega arith) ∙ ap (descriptor_item t us) zero in
+      let before : ltb 0 (further_blocks t) ≡ true = lt-ltb 0 (further_blocks t) (omega arith) in
+      let place : next us + (length t.logged + 0) ≡ place_for t us - 1 = omega arith in
+      let content : bytes_of e.form (descriptor_item t us 0).content ≡ further_block e.form e.form.version (descriptor_for t us) = rw before refl in
+      held t ts (writes t) _ w (omega arith) (ap (λ (v : Item). v.target) is ∙ ap AtPlace place) ∙ ap (λ (v : Item). bytes_of e.form v.content) is ∙ content
 
   pub held_copies : (t : Tx) (ts : List Tx) (x : ℕ) → IsWhole s i t ts → logged_copy (i.area t.queue) s.geometry.area (next (of_queue t.queue ts)) (blocks_of t.logged) x ≡ write_of t.logged x
   held_copies t ts x w =
       copies (i.area t.queue) s.geometry.area (next (of_queue t.queue ts)) t.logged x (λ n l.
       let is = item-logged t (of_queue t.queue ts) n l in
-      held t ts n _ w (omega arith) (ap (λ (v : Item). v.target) is) ∙ ap (λ (v : Item). v.content) is)
+      held t ts n _ w (omega arith) (ap (λ (v : Item). v.target) is) ∙ ap (λ (v : Item). bytes_of e.form v.content) is)
 
   held_direct : (t : Tx) (ts : List Tx) (x : ℕ) (v : List ℕ) → IsWhole s i t ts → write_of t.direct x ≡ Some v → last s.base (upto (front_of s) s.history) x ≤ t.number → i.home x ≡ v
   held_direct t ts x v w written l =
@@ -149,13 +148,13 @@ module _ (e : Entries) (s : State) (i : Shown) (f : Facts e s) (cut : IsCut e s 
       let n' : n - length t.logged ≡ d.i = omega arith in
       let c = end_of from (of_queue q ts) + n in
       let is = (item_of_at from q t ts s.history n refl w.at (omega arith)).0 ∙ item-direct t (of_queue q ts) n (omega arith) (omega arith) in
-      let done = done_stored q c own (omega (arith, cut.to_stored q own, w.below)) in
+      let done = done_stored k q (of_queue q s.history) (port_at s.ports q) c side (omega (arith, cut.to_stored q own, w.below)) in
       let target = ap (λ (v : Item). v.target) is ∙ ap AtHome (ap (λ m. (write_at t.direct m).0) n' ∙ d.block) in
       let number = ap (λ (v : Item). v.number) is in
       let there = side.direct c x (omega arith) done target (omega (arith, number, l)) in
       let zone = form.zoned x among in
-      let content = ap (λ (v : Item). v.content) is ∙ ap (λ m. (write_at t.direct m).1) n' ∙ d.content in
-      cut.home x _ (among_below 0 (homes_of s.geometry) (blocks_of t.direct) x form.direct among) (subst (λ z. Certainly (port_of s z) (home_index s.geometry x) (item_at from (of_queue q s.history) c).content) (sym zone) there) ∙ content
+      let content = ap (λ (v : Item). bytes_of e.form v.content) is ∙ ap (λ m. (write_at t.direct m).1) n' ∙ d.content in
+      cut.home x _ (among_below 0 (homes_of s.geometry) (blocks_of t.direct) x form.direct among) (subst (λ z. Certainly (port_of s z) (home_index s.geometry x) (bytes_of e.form (item_at from (of_queue q s.history) c).content)) (sym zone) there) ∙ content
 
   -- a block of the map after the image's base is at home
   pub held_base : (x : ℕ) (v : List ℕ) → x < homes_of s.geometry → map_after (start_map s.start) (upto i.base s.history) x ≡ Some v → last s.base (upto (front_of s) s.history) x ≤ i.base → i.home x ≡ v
@@ -229,8 +228,7 @@ module _ (e : Entries) (s : State) (i : Shown) (f : Facts e s) (cut : IsCut e s 
             rw (rows-none i.base t ts at) (held_base x v inside (ap (λ txs. map_after (start_map s.start) txs x) here ∙ there) (omega (arith, b, l)))
         | inl past ↦
             let w = (sub t ts (inl (refl, refl))).1 past in
-            let long : length (blocks_of t.logged) ≡ length t.logged = length-map t.logged (λ w. w.0) in
-            let place : next (of_queue t.queue ts) + length t.logged - length (blocks_of t.logged) ≡ next (of_queue t.queue ts) = omega arith in
+            let place : first_place (descriptor_for t (of_queue t.queue ts)) ≡ next (of_queue t.queue ts) = first-place t (of_queue t.queue ts) in
             let copy = held_copies t ts x w in
             let form = (f.log.each t ts w.at).0 in
             let placed = (f.log.each t ts w.at).1 in

@@ -47,6 +47,7 @@ draw_keeps e s t f may room mark =
     let base = f.log.word_low in
     let past : s.root.base < t.number = (let w : k.word ≤ k.base + length k.history = omega (arith, low, Rattle.mq_core.proofs.KnownJournalGrowth.front_low k) in omega (arith, may.number)) in
     record {
+      form = f.form;
       log = log_drawn k t f.log may new;
       ports = f.ports;
       marked = f.marked;
@@ -90,6 +91,7 @@ draw_keeps e s t f may room mark =
 pub clear_keeps : (e : Entries) (s : State) (q low : ℕ) → Facts e s → MayClear s q low → Facts e (clear q low s)
 clear_keeps e s q low f may =
     record {
+      form = f.form;
       log = f.log;
       ports = f.ports;
       marked = length-set s.marks q low ∙ f.marked;
@@ -110,6 +112,7 @@ clear_keeps e s q low f may =
 pub acknowledge_keeps : (e : Entries) (s : State) (n : ℕ) → Facts e s → n ≤ front_of s → Facts e (acknowledge n s)
 acknowledge_keeps e s n f may =
     record {
+      form = f.form;
       log = f.log;
       ports = f.ports;
       marked = f.marked;
@@ -127,6 +130,7 @@ acknowledge_keeps e s n f may =
 pub under_keeps : (e : Entries) (s : State) (xs : List ℕ) → Facts e s → ((x : ℕ) → is_among x xs ≡ true → IsUnder s x) → Facts e (record s { writing = xs })
 under_keeps e s xs f each =
     record {
+      form = f.form;
       log = f.log;
       ports = f.ports;
       marked = f.marked;
@@ -160,6 +164,7 @@ root_keeps : (e : Entries) (s : State) (p : PortState) → Facts e s → p.base 
     → ((x : ℕ) → is_among x s.writing ≡ true → zone_of s.geometry x ≡ None → IsUnder s x → (get_or p.certain (home_index s.geometry x) false ≡ false) × (holds_write (home_lba s.geometry x) p.begun ≡ true)) → Facts e (record s { root = p })
 root_keeps e s p f base stored root writing =
     record {
+      form = f.form;
       log = subst (λ k. LogOk k) same f.log;
       ports = f.ports;
       marked = f.marked;

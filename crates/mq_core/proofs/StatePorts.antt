@@ -120,6 +120,7 @@ module _ (e : Entries) (s : State) (f : Facts e s) (q : ℕ) (own : q < s.geomet
     port_keeps =
         let more_front : front_of s ≤ front_of (with p) = front_more k now f.log more in
         record {
+          form = f.form;
           log = log_more k now f.log more;
           ports = length-set s.ports q p ∙ f.ports;
           marked = f.marked;
@@ -151,7 +152,7 @@ module _ (e : Entries) (s : State) (f : Facts e s) (q : ℕ) (own : q < s.geomet
   under_apart x c z u may same =
       let side = f.sides q own in
       let l = posted_late k q (us_of s q) port f.log side c may in
-      let mine = own_with s.geometry q (from_at s.starts q) c (us_of s q) port.posted side.commands.posted may in
+      let mine = own_with e.form s.geometry q (from_at s.starts q) c (us_of s q) port.posted side.commands.posted may in
       apart_home k q (us_of s q) port f.log side c x l.0 z (λ d.
       let past = late k q (us_of s q) port c x f.log side l.0.0 d in
       let most = last_at s.base d.t d.ts s.history x f.log.numbers d.at (changes_direct d.t x d.among) in

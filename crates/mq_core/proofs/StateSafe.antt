@@ -1,26 +1,29 @@
 -- A state that has the facts is safe: the chains of an image, its prefix, and what it stands for.
 use Rattle.std.proofs.Common.{◌≡◌, ◌≢◌, ℕ, ◌+◌, ◌-◌, ◌<◌, ◌≤◌, ◌%◌, leb, Bool, true, false, List, [], ◌∷◌, length, Some, sym, refl, ap, subst, ◌∙◌, inl, inr, arith}
-use Rattle.std.proofs.lemmas.Bool.{cases_lt, cases_eq, cases_Bool, le-leb, leb-true, or_cases, or_right, and_parts, and_from, false≢true}
-use Rattle.mq_blocks.specs.Descriptor.{Descriptor, descriptor_bytes}
-use Rattle.mq_blocks.specs.Drive.{depth, usable_depth}
-use Rattle.mq_blocks.specs.Geometry.{area_lba}
-use Rattle.mq_blocks.specs.Journal.{Shown, WriteFields, IsChain, IsQueueChain, AreWhole, IsPrefix, Has, shown, number_limit}
-use Rattle.mq_ledger.specs.History.{writes, upto, of_queue, all_of, part_of, AreNumbered, IsAt}
-use Rattle.mq_ledger.specs.Items.{Entries, item_at, commit_item, said_of, end_of, next, number_before, place_before, IsEnd, below, descriptor_for, descriptor_blocks}
+use Rattle.std.proofs.lemmas.List.{length-map}
+use Rattle.std.proofs.lemmas.Bool.{cases_lt, cases_eq, cases_Bool, le-leb, leb-true, or_cases, or_right, false≢true}
+use Rattle.mq_blocks.specs.Descriptor.{Descriptor, DescriptorForm, IsDescriptor, IsGood, IsReadOnce, further_for}
+use Rattle.mq_blocks.specs.Drive.{PortImage}
+use Rattle.mq_blocks.specs.Limits.{depth, usable_depth}
+use Rattle.mq_blocks.specs.Geometry.{area_lba, homes_of, write_limit}
+use Rattle.mq_blocks.specs.Journal.{Shown, WriteFields, IsChain, IsQueueChain, AreWhole, AreInRow, IsPrefix, Has, Reaches, shown, number_limit}
+use Rattle.mq_ledger.specs.History.{blocks_of, writes, upto, of_queue, all_of, part_of, AreNumbered, IsAt}
+use Rattle.mq_ledger.specs.Items.{Entries, item_at, commit_item, said_of, end_of, next, number_before, place_before, place_for, IsEnd, below, descriptor_for, further_blocks, descriptor_blocks, reading_of}
 use Rattle.mq_ledger.specs.KnownJournal.{KnownJournal, front}
 use Rattle.mq_ledger.specs.Sides.{flushed_at}
-use Rattle.mq_ledger.specs.State.{State, Facts, IsPostedOnce, Recovers, AreImages, IsSafe, is_done, port_at, from_at, known_of, front_of}
+use Rattle.mq_ledger.specs.State.{State, Facts, IsPostedOnce, Recovers, AreImages, IsSafe, IsLawful, is_done, port_at, from_at, known_of, front_of}
 use Rattle.mq_ledger.specs.declared.tx.Tx.{Tx}
 use Rattle.mq_ledger.proofs.History.{at_most, at_same, last_upto_bound, numbered-upto}
 use Rattle.mq_ledger.proofs.Items.{item_at-in, item_at-below, item-commit}
 use Rattle.mq_ledger.proofs.JournalChains.{queue-chain-once}
 use Rattle.mq_ledger.proofs.HistoryQueues.{at_next, IsFalling, IsFalling-of, IsFalling-below, at_own, FromQueue-of, at_in_below, at_from_below, next_above}
-use Rattle.mq_core.proofs.HistoryFronts.{part-all, part-less, part_le, part_is, part_all, part_stops, all_of_at}
+use Rattle.mq_core.proofs.HistoryFronts.{DoneMore, part-all, part-less, part_le, part_is, part_all, part_more, part_stops, all_of_at}
 use Rattle.mq_core.proofs.EventsSideCommands.{posted_late}
 use Rattle.mq_core.proofs.KnownJournalSources.{from_of, number-from, direct_in, late, clash}
 use Rattle.mq_core.proofs.ItemsGoodness.{good_of}
-use Rattle.mq_core.proofs.ItemsReading.{HoldsAll, chain_of, reach_of, descriptors, from_descriptor, has_descriptor, rows, rows_row, from_row}
-use Rattle.mq_core.proofs.StateCuts.{IsCut, IsWhole, is_whole, cut_of, held_descriptor, stand_of}
+use Rattle.mq_core.proofs.ItemsReading.{HoldsAll, chain_of, reach_of, descriptors, from_descriptor, has_descriptor, rows, rows_row, from_row, in_row}
+use Rattle.mq_core.specs.Whole.{is_whole}
+use Rattle.mq_core.proofs.StateCuts.{IsCut, IsWhole, cut_of, held_descriptor, held_further, stand_of}
 
 -- the transaction that ends at a count
 record LastOf (from : ℕ) (txs : List Tx) (h : ℕ) : Type 0 where
@@ -74,14 +77,28 @@ module _ (e : Entries) (s : State) (i : Shown) (f : Facts e s) (cut : IsCut e s 
         let m = at_from_below (from_at s.starts q) (i.head q) t txs (us_at q) at in
         let r = FromQueue-of q t txs s.history m.0 in
         let limit = (f.sides q own).area.limit in
-        let there = at_next t txs (us_at q) m.0 in (
-          go t txs past m.1 r.ts r.at r.own r.rest,
-          good_of k t txs q f.log m.0 (omega arith),
-        );
+        let there = at_next t txs (us_at q) m.0 in
+        go t txs past m.1 r.ts r.at r.own r.rest (good_of k t txs q (e.form.most (write_limit s.geometry) e.form.version) f.log (f.form.lists s.geometry) m.0 (omega arith));
   }
     where
-      go : (t : Tx) (txs : List Tx) → i.base < t.number → end_of (from_at s.starts q) txs + (writes t + descriptor_blocks t) ≤ i.head q → (ts : List Tx) → IsAt t ts s.history → t.queue ≡ q → of_queue q ts ≡ txs → i.area q ((next txs + length t.logged) % s.geometry.area) ≡ descriptor_bytes (descriptor_for t txs)
-      go t txs past l ts at o rest = rw (← rest, ← o) (held_descriptor e s i f cut t ts (record { at = at; above = past; below = rw (o, rest) l }))
+      go : (t : Tx) (txs : List Tx) → i.base < t.number → end_of (from_at s.starts q) txs + (writes t + descriptor_blocks t) ≤ i.head q → (ts : List Tx) → IsAt t ts s.history → t.queue ≡ q → of_queue q ts ≡ txs
+          → IsGood (e.form.most (write_limit s.geometry) e.form.version) (homes_of s.geometry) (descriptor_for t txs)
+          → IsDescriptor i.form (write_limit s.geometry) (homes_of s.geometry) (i.area q (place_for t txs % s.geometry.area)) (i.area q ((place_for t txs - 1) % s.geometry.area)) (descriptor_for t txs)
+      go t txs past l ts at o rest good =
+          let w : IsWhole s i t ts = record { at = at; above = past; below = rw (o, rest) l } in
+          let here : of_queue t.queue ts ≡ txs = ap (λ n. of_queue n ts) o ∙ rest in
+          let long : further_for (length (blocks_of t.logged) + length t.revoked) ≡ further_blocks t = ap (λ (n : ℕ). further_for (n + length t.revoked)) (length-map t.logged (λ (v : ℕ × List ℕ). v.0)) in
+          let G : List Tx → Type 0 = λ vs. IsGood (e.form.most (write_limit s.geometry) e.form.version) (homes_of s.geometry) (descriptor_for t vs) in
+          let P : ℕ → List Tx → Type 0 = λ p vs. IsDescriptor e.form (write_limit s.geometry) (homes_of s.geometry) (i.area p (place_for t vs % s.geometry.area)) (i.area p ((place_for t vs - 1) % s.geometry.area)) (descriptor_for t vs) in
+          let there : P t.queue (of_queue t.queue ts) = record {
+            version = e.form.version;
+            known = inr refl;
+            last = held_descriptor e s i f cut t ts w;
+            rest = λ one. held_further e s i f cut t ts w (sym long ∙ one);
+            good = subst G (sym here) good;
+          } in
+          let F : DescriptorForm → Type 0 = λ form. IsDescriptor form (write_limit s.geometry) (homes_of s.geometry) (i.area q (place_for t txs % s.geometry.area)) (i.area q ((place_for t txs - 1) % s.geometry.area)) (descriptor_for t txs) in
+          subst F (sym cut.form) (subst (λ p. P p txs) o (subst (P t.queue) here there))
 
   -- where entries are read
   entry_is : (q c : ℕ) → q < s.geometry.queues → from_at s.starts q ≤ c → (port_at s.ports q).head ≤ c + 1 → c < (port_at s.ports q).doorbell → i.entry q (c % depth) ≡ Some (said_of s.geometry q (item_at (from_at s.starts q) (us_at q) c))
@@ -126,12 +143,12 @@ module _ (e : Entries) (s : State) (i : Shown) (f : Facts e s) (cut : IsCut e s 
       let last = last_of from p.doorbell (us_at q) side.ends.doorbell (omega (arith, o.head_low)) in
       let at : i.doorbell q - 1 ≡ p.doorbell - 1 = omega arith in
       let reads : i.entry q ((p.doorbell - 1) % depth) ≡ Some (said_of s.geometry q (item_at from (us_at q) (p.doorbell - 1))) = entry_is q (p.doorbell - 1) own (omega (arith, o.head_low)) (omega arith) (omega arith) in
-      let says : Some (said_of s.geometry q (item_at from (us_at q) (p.doorbell - 1))) ≡ Some (last.t.number, area_lba s.geometry q (next last.ws + length last.t.logged), true) = ap (λ v. Some (said_of s.geometry q v)) last.item in
-      (last.t.number, area_lba s.geometry q (next last.ws + length last.t.logged), ap (λ n. i.entry q (n % depth)) at ∙ (reads ∙ says)) in
+      let says : Some (said_of s.geometry q (item_at from (us_at q) (p.doorbell - 1))) ≡ Some (last.t.number, area_lba s.geometry q (place_for last.t last.ws), true) = ap (λ v. Some (said_of s.geometry q v)) last.item in
+      (last.t.number, area_lba s.geometry q (place_for last.t last.ws), ap (λ n. i.entry q (n % depth)) at ∙ (reads ∙ says)) in
       elim (cases_lt from (i.head q)) [
         | inl past ↦
             let last = last_of from (i.head q) (us_at q) (cut.end q own) past in
-            let place = next last.ws + length last.t.logged in
+            let place = place_for last.t last.ws in
             let chain' : IsChain s.geometry i q last.t.number place (descriptors i.base (chain_at q)) = subst (λ vs. IsChain s.geometry i q (number_before vs) (place_before vs) (descriptors i.base (chain_at q))) last.is chain in
             let there : IsAt last.t last.ws (chain_at q) = subst (λ vs. IsAt last.t last.ws vs) (sym last.is) (inl (refl, refl)) in
             let m = at_from_below from (i.head q) last.t last.ws (us_at q) there in
@@ -265,27 +282,14 @@ module _ (e : Entries) (s : State) (i : Shown) (f : Facts e s) (cut : IsCut e s 
       (n, λ past. whole_from t ts n (all_of_at (is_whole s i) t ts part (part_all (is_whole s i) s.history) at) past)
 
   -- all that is done is whole
-  all_whole : (h : List Tx) → ((t : Tx) (ts : List Tx) → IsAt t ts h → IsAt t ts s.history) → all_of (is_done s.starts s.ports) h ≡ true → all_of (is_whole s i) h ≡ true
-  all_whole [] sub all = refl
-  all_whole (t ∷ ts) sub all =
-      let n = and_parts (is_done s.starts s.ports t ts) (all_of (is_done s.starts s.ports) ts) all in
-      let own = (f.log.each t ts (sub t ts (inl (refl, refl)))).0.queue in
-      let low = cut.from_head t.queue own in
-      let done : end_of (from_at s.starts t.queue) (of_queue t.queue ts) + (writes t + descriptor_blocks t) ≤ (port_at s.ports t.queue).head = leb-true _ _ n.0 in
-      and_from (is_whole s i t ts) (all_of (is_whole s i) ts) (or_right (leb t.number i.base) _ (le-leb (end_of (from_at s.starts t.queue) (of_queue t.queue ts) + (writes t + descriptor_blocks t)) (i.head t.queue) (omega arith))) (all_whole ts (λ u txs at. sub u txs (inr at)) n.1)
-
-  front_whole : (h : List Tx) → ((t : Tx) (ts : List Tx) → IsAt t ts h → IsAt t ts s.history) → length (part_of (is_done s.starts s.ports) h) ≤ length (part_of (is_whole s i) h)
-  front_whole [] sub = omega arith
-  front_whole (t ∷ ts) sub =
-      elim (cases_Bool (all_of (is_whole s i) (t ∷ ts))) [
-        | inl all ↦ rw (part-all (is_whole s i) t ts all) (part_le (is_done s.starts s.ports) (t ∷ ts))
-        | inr some ↦
-            let bad : all_of (is_done s.starts s.ports) (t ∷ ts) ≡ false = elim (cases_Bool (all_of (is_done s.starts s.ports) (t ∷ ts))) [
-              | inl d ↦ absurd (false≢true (sym some ∙ all_whole (t ∷ ts) sub d))
-              | inr d ↦ d
-            ] in
-            rw (part-less (is_whole s i) t ts some, part-less (is_done s.starts s.ports) t ts bad) (front_whole ts (λ u txs at. sub u txs (inr at)))
-      ]
+  done_whole : DoneMore (is_done s.starts s.ports) (is_whole s i) s.history
+  done_whole = record {
+    each = λ t ts at d.
+        let own = (f.log.each t ts at).0.queue in
+        let low = cut.from_head t.queue own in
+        let done : end_of (from_at s.starts t.queue) (of_queue t.queue ts) + (writes t + descriptor_blocks t) ≤ (port_at s.ports t.queue).head = leb-true _ _ d in
+        or_right (leb t.number i.base) _ (le-leb (end_of (from_at s.starts t.queue) (of_queue t.queue ts) + (writes t + descriptor_blocks t)) (i.head t.queue) (omega arith));
+  }
 
   in_chain : (d : Descriptor) (t : Tx) (ts : List Tx) → IsWhole s i t ts → descriptor_for t (of_queue t.queue ts) ≡ d → (d.queue < s.geometry.queues) × Has (descriptors i.base (chain_at d.queue)) d
   in_chain d t ts w is =
@@ -294,12 +298,24 @@ module _ (e : Entries) (s : State) (i : Shown) (f : Facts e s) (cut : IsCut e s 
       let at = at_in_below (from_at s.starts q) (i.head q) t (of_queue q ts) (us_at q) (at_own q t ts s.history w.at refl) w.below in
       rw (← is) (own, has_descriptor q i.base t (of_queue q ts) (chain_at q) (falling_chain q) at w.above)
 
-  prefix_of : i.base ≤ s.base + length part → IsPrefix s.geometry i (λ q. descriptors i.base (chain_at q)) (rows i.base part)
-  prefix_of reach =
-      let upto_is = part_is s.base (is_whole s i) s.history f.log.numbers in
-      let numbered : AreNumbered s.base part = subst (λ h. AreNumbered s.base h) upto_is (numbered-upto s.base (s.base + length part) s.history f.log.numbers) in
-      let base : s.base ≤ s.root.base = f.log.word_low in
-      let row = rows_row s.base i.base part numbered (omega (arith, cut.low)) reach in
+  upto_is : upto (s.base + length part) s.history ≡ part
+  upto_is = part_is s.base (is_whole s i) s.history f.log.numbers
+
+  numbered : AreNumbered s.base part
+  numbered = subst (λ h. AreNumbered s.base h) upto_is (numbered-upto s.base (s.base + length part) s.history f.log.numbers)
+
+  -- it ends at or above the front
+  part_front : front_of s ≤ s.base + length part
+  part_front = (let n = part_more (is_done s.starts s.ports) (is_whole s i) s.history done_whole in omega arith)
+
+  part_base : i.base ≤ s.base + length part
+  part_base = omega (arith, cut.reached, part_front)
+
+  row : AreInRow i.base (rows i.base part) × (i.base + length (rows i.base part) ≡ s.base + length part)
+  row = (let base : s.base ≤ s.root.base = f.log.word_low in rows_row s.base i.base part numbered (omega (arith, cut.low)) part_base)
+
+  prefix : IsPrefix s.geometry i (λ q. descriptors i.base (chain_at q)) (rows i.base part)
+  prefix =
       record {
         row = row.0;
         whole = λ d has.
@@ -316,27 +332,46 @@ module _ (e : Entries) (s : State) (i : Shown) (f : Facts e s) (cut : IsCut e s 
             false≢true (sym not ∙ yes);
       }
 
+  -- each chain is this one
+  chain_is : (chains : ℕ → List Descriptor) → AreWhole s.geometry i chains → (q : ℕ) → q < s.geometry.queues → chains q ≡ descriptors i.base (chain_at q)
+  chain_is chains whole q own = queue-chain-once s.geometry i q (chains q) (descriptors i.base (chain_at q)) (subst IsReadOnce (sym cut.form) f.form.read) (whole.each q own) (queue_chain q own)
+
   pub recovers : Recovers s i
   recovers =
-      let upto_is = part_is s.base (is_whole s i) s.history f.log.numbers in
-      let numbered : AreNumbered s.base part = subst (λ h. AreNumbered s.base h) upto_is (numbered-upto s.base (s.base + length part) s.history f.log.numbers) in
-      let more : front_of s ≤ s.base + length part = (let n = front_whole s.history (λ t ts at. at) in omega arith) in
-      let reach : i.base ≤ s.base + length part = omega (arith, cut.reached) in
-      let base : s.base ≤ s.root.base = f.log.word_low in
-      let row = rows_row s.base i.base part numbered (omega (arith, cut.low)) reach in
       let front_base : s.base ≤ front_of s = omega arith in
       record {
         chains = λ q. descriptors i.base (chain_at q);
         whole = all_chains;
-        unique = λ others whole q own. queue-chain-once s.geometry i q (others q) (descriptors i.base (chain_at q)) (whole.each q own) (queue_chain q own);
+        unique = chain_is;
         ds = rows i.base part;
-        prefix = prefix_of reach;
-        least = omega (arith, row.1, more);
+        prefix = prefix;
+        least = omega (arith, row.1, part_front);
         most = omega (arith, row.1, part_le (is_whole s i) s.history);
         stand = λ x v inside there.
             let there' = subst (λ h. Rattle.mq_ledger.specs.History.map_after (Rattle.mq_ledger.specs.State.start_map s.start) h x ≡ Some v) (ap (λ n. upto n s.history) row.1 ∙ upto_is) there in
-            stand_of e s i f cut part x v inside numbered sub_of upto_is reach (omega (arith, more, last_upto_bound s.base (front_of s) s.history x f.log.numbers front_base)) there';
+            stand_of e s i f cut part x v inside numbered sub_of upto_is part_base (omega (arith, part_front, last_upto_bound s.base (front_of s) s.history x f.log.numbers front_base)) there';
       }
+
+  -- ---- how far it reaches
+
+  -- no prefix of the same chains is longer than another
+  not_longer : (chains others : ℕ → List Descriptor) (ds es : List Descriptor) → ((q : ℕ) → q < s.geometry.queues → others q ≡ chains q) → IsPrefix s.geometry i chains ds → IsPrefix s.geometry i others es → length es ≤ length ds
+  not_longer chains others ds es same p r = elim (cases_lt (length ds) (length es)) [
+    | inr low ↦ low
+    | inl more ↦
+        let d = in_row i.base (i.base + length ds + 1) es r.row (omega arith) (omega arith) in
+        let w = r.whole d.0 d.1 in
+        absurd (p.greatest d.0.queue d.0 w.0 (subst (λ vs. Has vs d.0) (same d.0.queue w.0) w.1) d.2)
+  ]
+
+  -- a prefix is as long as the part of the history whose transactions are whole
+  pub reach_is : (chains : ℕ → List Descriptor) (ds : List Descriptor) → AreWhole s.geometry i chains → IsPrefix s.geometry i chains ds → i.base + length ds ≡ s.base + length (part_of (is_whole s i) s.history)
+  reach_is chains ds whole p =
+      let mine : ℕ → List Descriptor = λ q. descriptors i.base (chain_at q) in
+      let is = chain_is chains whole in
+      let least = not_longer chains mine ds (rows i.base part) (λ q own. sym (is q own)) p prefix in
+      let most = not_longer mine chains (rows i.base part) ds is prefix p in
+      omega (arith, least, most, row.1)
 
 -- at most one direct write of a block is posted
 pub posted_once : (e : Entries) (s : State) → Facts e s → IsPostedOnce s
@@ -361,6 +396,10 @@ posted_once e s f q c d x own a b there here =
 pub safe_from : (e : Entries) (s : State) → Facts e s → IsSafe e s
 safe_from e s f =
     record {
-      images = λ queues root it. recovers e s (shown e.says s.geometry queues root) f (cut_of e s queues root f it);
+      images = λ queues root it. recovers e s (shown (reading_of e) s.geometry queues root) f (cut_of e s queues root f it);
       acknowledged = f.acknowledged;
     }
+
+pub prefix_is : (e : Entries) (s : State) (queues : List PortImage) (root : PortImage) (ds : List Descriptor) → IsLawful e s → AreImages s queues root → Reaches s.geometry (shown (reading_of e) s.geometry queues root) ds
+    → root.base + length ds ≡ s.base + length (part_of (is_whole s (shown (reading_of e) s.geometry queues root)) s.history)
+prefix_is e s queues root ds law it r = reach_is e s (shown (reading_of e) s.geometry queues root) law.facts (cut_of e s queues root law.facts it) r.chains ds r.whole r.prefix

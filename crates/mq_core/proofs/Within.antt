@@ -82,7 +82,7 @@ module _ (k : KnownJournal) (q : ℕ) (txs : List Tx) (p : PortState) (log : Log
   pub posted_within : (c : ℕ) → MayEnd c p → IsWithin p (command_with c p.posted).lba
   posted_within c may =
       let late = posted_late k q txs p log s c may in
-      subst (λ (w : Command). IsWithin p w.lba) (sym (own_with k.geometry q (k.from q) c txs p.posted s.commands.posted may)) (go (item_at (k.from q) txs c).target refl late.0)
+      subst (λ (w : Command). IsWithin p w.lba) (sym (own_with k.entries.form k.geometry q (k.from q) c txs p.posted s.commands.posted may)) (go (item_at (k.from q) txs c).target refl late.0)
     where
       go : (target : Target) → (item_at (k.from q) txs c).target ≡ target → IsLate k q txs p log s c → IsWithin p (lba_of k.geometry q target)
       go (AtPlace r) e late = place_within k.geometry q r p s.port s.queue

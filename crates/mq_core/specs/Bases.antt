@@ -11,7 +11,11 @@ use Rattle.mq_ledger.specs.State.{State, front_of, start_map}
 -- the content of a block in the map after the base, where no number above it and up to the front
 -- changed the block
 abbrev pub due_at : State → ℕ → ℕ → Option (List ℕ)
-due_at s b x = if nat_lt x (homes_of s.geometry) then (if nat_le (last s.base (upto (front_of s) s.history) x) b then map_after (start_map s.start) (upto (front_of s) s.history) x else None) else None
+due_at s b x =
+    if nat_lt x (homes_of s.geometry)
+    then (if nat_le (last s.base (upto (front_of s) s.history) x) b
+    then map_after (start_map s.start) (upto (front_of s) s.history) x else None)
+    else None
 
 -- the home block that a command writes
 abbrev pub home_of : Geometry → Command → Option ℕ

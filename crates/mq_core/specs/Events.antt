@@ -2,25 +2,28 @@
 -- allowed.
 use Rattle.std.specs.Prelude.{◌≡◌, ◌<◌, ◌≤◌, ℕ, suc, ◌+◌, ◌-◌, ◌%◌, ◌^◌, Bool, true, false, List, [], ◌∷◌, length, Option, Some, None, nat_eq, slice_set, if◌then◌else◌}
 use Rattle.mq_blocks.specs.Blocks.{content}
-use Rattle.mq_blocks.specs.Drive.{PortState, AreFrom, staged_end, depth, after_stage, after_flush, after_ring, after_done, after_failed, after_store_head, after_store_base, after_begin, after_end, usable_depth}
+use Rattle.mq_blocks.specs.Limits.{depth, usable_depth}
+use Rattle.mq_blocks.specs.Drive.{PortState, AreFrom, staged_end, after_stage, after_flush, after_ring, after_done, after_failed, after_store_head, after_store_base, after_begin, after_end}
 use Rattle.mq_blocks.specs.Geometry.{homes_of, zone_of, home_lba}
 use Rattle.mq_blocks.specs.Journal.{is_among, number_limit}
 use Rattle.mq_blocks.specs.declared.command.Command.{Command}
 use Rattle.mq_blocks.specs.declared.geometry.Geometry.{Geometry}
 use Rattle.mq_ledger.specs.History.{blocks_of, writes, changes, map_after, last, upto, of_queue, IsAt}
-use Rattle.mq_ledger.specs.Items.{Entries, Item, said_of, lba_of, end_of, next, item_at, IsEnd, descriptor_blocks}
+use Rattle.mq_ledger.specs.Items.{Entries, Item, said_of, lba_of, end_of, next, item_at, IsEnd, place_for, descriptor_blocks, bytes_of}
 use Rattle.mq_ledger.specs.Sides.{IsKept, holds_count}
 use Rattle.mq_ledger.specs.State.{State, is_done, front_of, from_at, known_of, port_at, port_of, start_map}
 use Rattle.mq_ledger.specs.declared.tx.Tx.{Tx}
 
 -- ---- of a queue's port, where its entries begin at `from` and are those of `txs`
 
-abbrev pub staged_with : (ℕ → ℕ × ℕ × Bool → List ℕ) → Geometry → ℕ → Item → PortState → PortState
-staged_with entry g q i p = after_stage p (entry (staged_end p % depth) (said_of g q i)) i.number (lba_of g q i.target) i.content
+abbrev pub staged_with : Entries → Geometry → ℕ → Item → PortState → PortState
+staged_with e g q i p =
+    after_stage p (e.entry (staged_end p % depth) (said_of g q i)) i.number
+    (lba_of g q i.target) (bytes_of e.form i.content)
 
 -- the next entry is staged
 abbrev pub stage_side : Entries → Geometry → ℕ → ℕ → List Tx → PortState → PortState
-stage_side e g q from txs p = staged_with e.entry g q (item_at from txs (staged_end p)) p
+stage_side e g q from txs p = staged_with e g q (item_at from txs (staged_end p)) p
 
 abbrev pub no_command : Command
 no_command = record { count = 0; tx = 0; lba = 0; block = [] }
@@ -82,7 +85,7 @@ pub record HasRoom (g : Geometry) (from word : ℕ) (txs : List Tx) (t : Tx) (p 
   pub failed : p.failed ≡ []
   pub ring : writes t + descriptor_blocks t ≤ usable_depth - (staged_end p - p.head)
   pub area : next txs + (length t.logged + descriptor_blocks t) ≤ next (upto word txs) + g.area
-  pub places : next txs + length t.logged < 2 ^ 62
+  pub places : place_for t txs < 2 ^ 62
   pub limit : end_of from txs + (writes t + descriptor_blocks t) ≤ number_limit
 
 -- ---- of the state
@@ -108,7 +111,9 @@ abbrev pub draw : Tx → State → State
 draw t s = record s { history = t ∷ s.history; writing = unchanged_by t s.writing }
 
 abbrev pub stage : Entries → ℕ → State → State
-stage e q s = with_port s (Some q) (stage_side e s.geometry q (from_at s.starts q) (us_of s q) (port_at s.ports q))
+stage e q s =
+    with_port s (Some q)
+    (stage_side e s.geometry q (from_at s.starts q) (us_of s q) (port_at s.ports q))
 
 abbrev pub flush : ℕ → State → State
 flush q s = with_port s (Some q) (after_flush (port_at s.ports q))
@@ -136,10 +141,16 @@ abbrev pub content_at : State → ℕ → List ℕ
 content_at s x = content (map_after (start_map s.start) s.history x)
 
 abbrev pub write_home : ℕ → State → State
-write_home x s = record (with_port s (zone_of s.geometry x) (begin_home s.geometry x (content_at s x) (port_of s (zone_of s.geometry x)))) { writing = x ∷ s.writing }
+write_home x s =
+    record (with_port s (zone_of s.geometry x)
+    (begin_home s.geometry x (content_at s x) (port_of s (zone_of s.geometry x))))
+    { writing = x ∷ s.writing }
 
 abbrev pub home_done : ℕ → State → State
-home_done x s = record (with_port s (zone_of s.geometry x) (end_home s.geometry x (content_at s x) (port_of s (zone_of s.geometry x)))) { writing = without x s.writing }
+home_done x s =
+    record (with_port s (zone_of s.geometry x)
+    (end_home s.geometry x (content_at s x) (port_of s (zone_of s.geometry x))))
+    { writing = without x s.writing }
 
 abbrev pub store_base : ℕ → State → State
 store_base b s = record s { root = after_store_base s.root b }
@@ -150,7 +161,8 @@ flush_base s = record s { root = after_flush s.root }
 -- each number of the queue that isn't done is at or above the mark
 pub record MayClear (s : State) (q low : ℕ) : Type 0 where
   pub queue : q < s.geometry.queues
-  pub each : (t : Tx) (ts : List Tx) → IsAt t ts s.history → t.queue ≡ q → is_done s.starts s.ports t ts ≡ false → low ≤ t.number
+  pub each : (t : Tx) (ts : List Tx) → IsAt t ts s.history → t.queue ≡ q
+      → is_done s.starts s.ports t ts ≡ false → low ≤ t.number
 
 -- the block is in the map, and its last change logged it, is done, and is above the stored base
 pub record MayWriteHome (s : State) (x : ℕ) : Type 0 where
@@ -158,11 +170,14 @@ pub record MayWriteHome (s : State) (x : ℕ) : Type 0 where
   pub there : (block : List ℕ) × (map_after (start_map s.start) s.history x ≡ Some block)
   pub low : s.root.stored_base < last s.base s.history x
   pub high : last s.base s.history x ≤ front_of s
-  pub logged : (t : Tx) (ts : List Tx) → IsAt t ts s.history → t.number ≡ last s.base s.history x → is_among x (blocks_of t.logged) ≡ true
+  pub logged : (t : Tx) (ts : List Tx) → IsAt t ts s.history → t.number ≡ last s.base s.history x
+      → is_among x (blocks_of t.logged) ≡ true
 
 -- each block of the map after the base is certainly at home, or is changed by a number above the base
 -- and up to the front
 pub record MayStoreBase (e : Entries) (s : State) (b : ℕ) : Type 0 where
   pub above : s.root.stored_base ≤ b
   pub reached : b ≤ front_of s
-  pub home : (x : ℕ) (block : List ℕ) → x < homes_of s.geometry → map_after (start_map s.start) (upto b s.history) x ≡ Some block → IsKept (known_of e s) (port_of s (zone_of s.geometry x)) x b block
+  pub home : (x : ℕ) (block : List ℕ) → x < homes_of s.geometry
+      → map_after (start_map s.start) (upto b s.history) x ≡ Some block
+      → IsKept (known_of e s) (port_of s (zone_of s.geometry x)) x b block

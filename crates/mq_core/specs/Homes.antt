@@ -31,4 +31,5 @@ IsIn g x ports root = IsInZone (zone_of g x) (home_lba g x) ports root
 pub record IsLoggedLast (k : KnownJournal) (x : ℕ) : Type 0 where
   pub due : (v : ℕ) → k.due x v ≡ true → v < last k.base k.history x
   pub high : last k.base k.history x ≤ front k
-  pub logged : (t : Tx) (ts : List Tx) → IsAt t ts k.history → t.number ≡ last k.base k.history x → is_among x (blocks_of t.logged) ≡ true
+  pub logged : (t : Tx) (ts : List Tx) → IsAt t ts k.history → t.number ≡ last k.base k.history x
+      → is_among x (blocks_of t.logged) ≡ true

@@ -7,3 +7,4 @@ pub mod Settled
 pub mod Homes
 pub mod Bases
 pub mod View
+pub mod Whole

@@ -28,13 +28,20 @@ happens e FlushBase s = flush_base s
 
 abbrev pub IsAllowed : Entries → Event → State → Type 0
 IsAllowed e (Draw t) s =
-    MayDraw (known_of e s) t × HasRoom s.geometry (from_at s.starts t.queue) s.root.base (us_of s t.queue) t (port_at s.ports t.queue) × (slice_index_or s.marks t.queue 0 ≤ t.number)
-IsAllowed e (Stage q) s = (q < s.geometry.queues) × MayStage (from_at s.starts q) (us_of s q) (port_at s.ports q)
-IsAllowed e (Flush q) s = (q < s.geometry.queues) × MayFlush (from_at s.starts q) (us_of s q) (port_at s.ports q)
-IsAllowed e (Ring q) s = (q < s.geometry.queues) × MayRing (from_at s.starts q) (us_of s q) (port_at s.ports q)
+    MayDraw (known_of e s) t
+    × HasRoom s.geometry (from_at s.starts t.queue) s.root.base (us_of s t.queue) t
+    (port_at s.ports t.queue)
+    × (slice_index_or s.marks t.queue 0 ≤ t.number)
+IsAllowed e (Stage q) s =
+    (q < s.geometry.queues) × MayStage (from_at s.starts q) (us_of s q) (port_at s.ports q)
+IsAllowed e (Flush q) s =
+    (q < s.geometry.queues) × MayFlush (from_at s.starts q) (us_of s q) (port_at s.ports q)
+IsAllowed e (Ring q) s =
+    (q < s.geometry.queues) × MayRing (from_at s.starts q) (us_of s q) (port_at s.ports q)
 IsAllowed e (Complete q c) s = (q < s.geometry.queues) × MayEnd c (port_at s.ports q)
 IsAllowed e (FailCommand q c) s = (q < s.geometry.queues) × MayEnd c (port_at s.ports q)
-IsAllowed e (StoreHead q h) s = (q < s.geometry.queues) × MayStoreHead (from_at s.starts q) (us_of s q) (port_at s.ports q) h
+IsAllowed e (StoreHead q h) s =
+    (q < s.geometry.queues) × MayStoreHead (from_at s.starts q) (us_of s q) (port_at s.ports q) h
 IsAllowed e (FlushHead q) s = q < s.geometry.queues
 IsAllowed e (Clear q low) s = MayClear s q low
 IsAllowed e (Acknowledge n) s = n ≤ front_of s

@@ -15,14 +15,23 @@ pub record IsNextDone (s : Ledger) (ports : List PortState) : Type 0 where
   pub done : is_done s.starts ports tx before ≡ true
 
 abbrev pub with_front : ℕ → Ledger → Ledger
-with_front n l = record { geometry = l.geometry; start = l.start; base = l.base; starts = l.starts; history = l.history; front = n }
+with_front n l =
+    record {
+      geometry = l.geometry;
+      start = l.start;
+      base = l.base;
+      starts = l.starts;
+      history = l.history;
+      front = n;
+    }
 
 -- all numbers up to the front are done
 pub record IsSettled (l : Ledger) (ports : List PortState) : Type 0 where
   pub numbers : AreNumbered l.base l.history
   pub low : l.base ≤ l.front
   pub high : l.front ≤ l.base + length l.history
-  pub done : (t : Tx) (ts : List Tx) → IsAt t ts l.history → t.number ≤ l.front → is_done l.starts ports t ts ≡ true
+  pub done : (t : Tx) (ts : List Tx) → IsAt t ts l.history → t.number ≤ l.front
+      → is_done l.starts ports t ts ≡ true
 
 -- and no greater one
 abbrev pub settled : List PortState → Ledger → Ledger

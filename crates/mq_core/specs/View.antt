@@ -21,7 +21,9 @@ state_with ledger ports root marks writing acknowledged = record {
 }
 
 abbrev pub state_of : Inside → State
-state_of c = state_with c.ledger c.ports.items c.root c.marks.items (reverse c.writing.items) (reverse c.acknowledged.items)
+state_of c =
+    state_with c.ledger c.ports.items c.root c.marks.items (reverse c.writing.items)
+    (reverse c.acknowledged.items)
 
 -- The state has the facts, this is its front, and nothing is staged at the root.
 pub record IsHeld (front : ℕ) (s : State) : Type 0 where

@@ -1,12 +1,17 @@
 // What holds of every run.
-ghost use Rattle.std.specs.Prelude.{◌≡◌, ◌≤◌, ℕ, ◌^◌, Option, List, length};
+ghost use Rattle.std.specs.Prelude.{◌≡◌, ◌≤◌, ℕ, ◌+◌, ◌^◌, Option, List, length};
+ghost use Rattle.mq_blocks.specs.Descriptor.{Descriptor};
+ghost use Rattle.mq_blocks.specs.Drive.{PortImage};
 ghost use Rattle.mq_blocks.specs.Geometry.{homes_of};
+ghost use Rattle.mq_blocks.specs.Journal.{Reaches, shown};
 ghost use Rattle.mq_blocks.specs.declared.geometry.Geometry.{Geometry};
-ghost use Rattle.mq_ledger.specs.Items.{Entries};
+ghost use Rattle.mq_ledger.specs.History.{part_of};
+ghost use Rattle.mq_ledger.specs.Items.{Entries, reading_of};
 ghost use Rattle.mq_ledger.specs.Plain.{plain};
-ghost use Rattle.mq_ledger.specs.State.{State, IsStart};
+ghost use Rattle.mq_ledger.specs.State.{State, AreImages, IsLawful, IsStart};
 ghost use Rattle.mq_core.specs.Start.{start_state};
 ghost use Rattle.mq_core.specs.Machine.{Event, AreAllowed, IsAlwaysLawful};
+ghost use Rattle.mq_core.specs.Whole.{is_whole};
 
 /// Every run of allowed events from a start state is lawful before, after and between its events:
 /// whatever a power cut leaves there is readable and stands for the map after a prefix of the
@@ -16,6 +21,17 @@ pub fn every_run_is_lawful()
         → IsStart e s
         → AreAllowed e events s
         → IsAlwaysLawful e events s }
+{}
+
+/// On an image of a lawful state the prefix is as long as the part of the history whose transactions the
+/// image shows whole: up to its base, and from there on those whose entries all stand below its heads.
+pub fn prefixes_are_whole()
+    ensures { (e : Entries) (s : State) (queues : List PortImage) (root : PortImage) (ds : List Descriptor)
+        → IsLawful e s
+        → AreImages s queues root
+        → Reaches s.geometry (shown (reading_of e) s.geometry queues root) ds
+        → root.base + length ds
+        ≡ s.base + length (part_of (is_whole s (shown (reading_of e) s.geometry queues root)) s.history) }
 {}
 
 /// Home blocks and a base make a start state.

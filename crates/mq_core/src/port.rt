@@ -1,10 +1,11 @@
 // A port of the machine: ring, doorbell, heads, and blocks.
 ghost use Rattle.std.specs.Prelude.{◌≡◌, nat_eq, ◌↔◌, IsTrue, ◌<◌, ◌≤◌, ◌+◌, ◌%◌, ◌^◌, ◌++◌, ◌-◌, ◌∷◌, [], ℕ, length, slice_index_or, slice_set};
+ghost use Rattle.mq_blocks.specs.Limits.{depth, usable_depth};
 ghost use Rattle.std.specs.Prelude.{replicate, Some, None, true, false, IfSome, IfNone, IfOk, OnOk, OnErr};
 ghost use Rattle.std.specs.List.{remove};
 ghost use Rattle.std.specs.Bool.{OnTrue, OnFalse};
 ghost use Rattle.mq_blocks.specs.Drive.{PortState, AreFrom, counted, staged_end, after_stage, after_flush, after_ring, after_begin, after_write};
-ghost use Rattle.mq_blocks.specs.Drive.{after_end, without_last, after_store_head, after_store_base, index_of, depth, usable_depth};
+ghost use Rattle.mq_blocks.specs.Drive.{after_end, without_last, after_store_head, after_store_base, index_of};
 ghost use Rattle.mq_blocks.specs.Blocks.{zeros, content};
 ghost use Rattle.mq_ledger.specs.Sides.{holds_count};
 ghost use Rattle.mq_core.specs.Bases.{Holds};

@@ -8,8 +8,9 @@ use Rattle.std.specs.Option.{ForSome, option_eq, option_to_list}
 use Rattle.rand_pcg.specs.Lcg.{Lcg}
 use Rattle.rand_pcg.specs.Pcg.{pcg64}
 use Rattle.mq_blocks.specs.declared.command.Command.{Command}
+use Rattle.mq_blocks.specs.Limits.{depth}
 use Rattle.mq_blocks.specs.declared.command.HomeWrite.{HomeWrite}
-use Rattle.mq_blocks.specs.Drive.{PortState, PortImage, depth, staged_end, index_of}
+use Rattle.mq_blocks.specs.Drive.{PortState, PortImage, staged_end, index_of}
 use Rattle.mq_nvme.specs.Dwords.{AreDwords, dword_bytes}
 use Rattle.mq_drive.specs.Choices.{Chance, torn, next_bytes, next_slot, next_block, torn_slots, torn_block, torn_blocks, writes_of, by_count, in_doubt, cut_of, generator_of, either_of, dwords_of}
 use Rattle.mq_drive.specs.Failures.{failed_of, unended_of, while_in, doubt_after, written_by}

@@ -1,10 +1,12 @@
 -- Commands in order of count.
 use Rattle.std.proofs.Common.{◌≡◌, ◌<◌, ◌≤◌, ℕ, ◌+◌, List, [], ◌∷◌, ◌++◌, length, zero, suc, All, Option, Some, None, is_some, refl, sym, ap, subst, arith, true≢false}
 use Rattle.std.proofs.lemmas.List.{append-nil}
+use Rattle.std.proofs.lemmas.List.Edits.{length-remove}
 use Rattle.std.proofs.lemmas.List.Elements.{All-cons, All-rest}
+use Rattle.std.proofs.lemmas.Option.{slice_get_within}
 use Rattle.std.specs.List.{remove}
 use Rattle.std.specs.Prelude.{slice_get}
-use Rattle.mq_blocks.specs.Drive.{AreCounted}
+use Rattle.mq_blocks.specs.Drive.{AreCounted, PortState}
 use Rattle.mq_blocks.specs.declared.command.Command.{Command}
 use Rattle.mq_blocks.proofs.DriveCounts.{counted_high, counted_append}
 
@@ -17,6 +19,9 @@ counted_ring low mid xs (y ∷ ys) below first second =
     counted_append low mid (mid + length (y ∷ ys)) xs (y ∷ ys) (below (omega arith)) (omega arith) first second
 
 -- ---- one command is taken out
+
+pub fewer : (s : PortState) (i : ℕ) (c : Command) → slice_get s.posted i ≡ Some c → length (remove s.posted i) + 1 ≡ length s.posted
+fewer s i c is = length-remove s.posted i (slice_get_within s.posted i c is)
 
 pub all_remove : (P : Command → Type 0) (at : ℕ) (cs : List Command) → All P cs → All P (remove cs at)
 all_remove P zero [] all = all

@@ -4,7 +4,8 @@ use Rattle.std.specs.Prelude.{IsErr}
 use Rattle.std.specs.Option.{ForSome, option_eq}
 use Rattle.std.proofs.lemmas.Bool.{cases_lt, le-leb, lt-leb}
 use Rattle.std.proofs.Math.Bool.{and-false}
-use Rattle.mq_blocks.specs.Drive.{PortState, depth}
+use Rattle.mq_blocks.specs.Drive.{PortState}
+use Rattle.mq_blocks.specs.Limits.{depth}
 use Rattle.mq_nvme.specs.Completion.{completion_of, identifier_of}
 use Rattle.mq_nvme.specs.declared.completion.Ended.{Ended}
 use Rattle.mq_nvme.proofs.CompletionCommands.{identifier_of-completion}

@@ -4,7 +4,6 @@ pub mod DriveCommands
 pub mod DriveCutting
 pub mod DriveMoves
 pub mod Emulated
-pub mod FlakyAnswers
 pub mod FuseCounts
 pub mod FuseSteps
 pub mod Happened

@@ -1,9 +1,9 @@
 -- Flushing copies the staged slots one by one.
 use Rattle.std.proofs.Common.{◌≡◌, ◌≢◌, ◌<◌, ◌≤◌, ℕ, ◌+◌, ◌%◌, List, [], length, get_or, set, ⊎_elim, sym, ◌∙◌, ap, subst, arith}
+use Rattle.mq_blocks.specs.Limits.{depth}
 use Rattle.std.proofs.lemmas.Bool.{cases_eq}
 use Rattle.std.proofs.lemmas.Grind.{get_or-set_at}
 use Rattle.std.proofs.lemmas.List.{get_or-set_other, ext_get_or}
-use Rattle.mq_blocks.specs.Drive.{depth}
 use Rattle.mq_drive.specs.Slots.{AreSettled}
 
 pub settled_all : (flushed staged : List (List ℕ)) (from to : ℕ) → length flushed ≡ length staged → to ≤ from → AreSettled flushed staged from to → flushed ≡ staged

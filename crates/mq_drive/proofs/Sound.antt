@@ -3,7 +3,8 @@ use Rattle.std.proofs.Common.{◌≡◌, ◌≤◌, ℕ, Bool, List, length, All
 use Rattle.std.specs.List.{remove}
 use Rattle.std.specs.Option.{ForSome}
 use Rattle.std.specs.VecDeque.{deque_capacity}
-use Rattle.mq_blocks.specs.Drive.{AreCounted, counted, index_of, usable_depth}
+use Rattle.mq_blocks.specs.Drive.{AreCounted, counted, index_of}
+use Rattle.mq_blocks.specs.Limits.{usable_depth}
 use Rattle.mq_blocks.specs.declared.command.Command.{Command}
 use Rattle.mq_blocks.proofs.DriveCounts.{counted_remove}
 use Rattle.mq_drive.specs.Emu.{device_state}

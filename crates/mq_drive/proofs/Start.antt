@@ -2,6 +2,7 @@
 use Rattle.std.proofs.Common.{◌≡◌, true, false, length, refl, arith, ℕ, Option}
 use Rattle.std.proofs.lemmas.List.{get_or-replicate, length-replicate}
 use Rattle.mq_blocks.specs.Drive.{FuseName, PortImage, IsQuiescent}
+use Rattle.mq_blocks.specs.Limits.{depth}
 use Rattle.mq_blocks.specs.Geometry.{area_of, zone_size}
 use Rattle.mq_blocks.specs.declared.geometry.Geometry.{Geometry}
 use Rattle.mq_drive.specs.Start.{IsImageOf, IsPortOf, start_of}
@@ -34,5 +35,5 @@ quiet-start g role i fuse fail = record {
 }
 
 -- where a queue has an area of 1,024 blocks and a zone of 240, an image is of it by its sizes
-pub of_one : (g : Geometry) (i : PortImage) → area_of g ≡ 1024 → zone_size g ≡ 240 → length i.slots ≡ 1024 → length i.blocks ≡ 1264 → i.base ≡ 0 → IsImageOf g (Queue 0) i
+pub of_one : (g : Geometry) (i : PortImage) → area_of g ≡ 1024 → zone_size g ≡ 240 → length i.slots ≡ depth → length i.blocks ≡ 1264 → i.base ≡ 0 → IsImageOf g (Queue 0) i
 of_one g i area zone slots blocks base = record { slots = slots; blocks = omega (arith, blocks, area, zone); words = base }

@@ -6,7 +6,8 @@ use Rattle.rand_core.specs.Pcg32Seed.{pcg32_seed}
 use Rattle.rand_core.specs.Steps.{fill_via_u64}
 use Rattle.rand_pcg.specs.Lcg.{Lcg}
 use Rattle.rand_pcg.specs.Pcg.{pcg64, pcg64_of_seed}
-use Rattle.mq_blocks.specs.Drive.{PortState, PortImage, depth, staged_end, index_of, after_begin}
+use Rattle.mq_blocks.specs.Drive.{PortState, PortImage, staged_end, index_of, after_begin}
+use Rattle.mq_blocks.specs.Limits.{depth}
 use Rattle.mq_blocks.specs.declared.command.Command.{Command}
 use Rattle.mq_blocks.specs.declared.command.HomeWrite.{HomeWrite}
 use Rattle.mq_nvme.specs.Completion.{status_of}
@@ -29,7 +30,8 @@ chosen count rng = if count == 1 then (0, rng) else ((pcg64 rng).0 % count, (pcg
 
 -- one of two numbers; where they are the same, no word of the generator is taken
 unfoldable pub either_of : (old new : ℕ) → Lcg → ℕ × Lcg
-either_of old new rng = if old == new then (old, rng) else (if (pcg64 rng).0 % 2 == 1 then new else old, (pcg64 rng).1)
+either_of old new rng =
+    if old == new then (old, rng) else (if (pcg64 rng).0 % 2 == 1 then new else old, (pcg64 rng).1)
 
 -- the next bytes
 unfoldable pub next_bytes : (count : ℕ) → Lcg → List ℕ × Lcg
@@ -63,14 +65,20 @@ without s lba r = record r {
 }
 
 -- the command that has ended is the chosen one of those that were posted
-pub record IsChosen (old : PortState) (faults : List PortFault) (r : Chance) (c : List ℕ) (new : PortState) (more : List PortFault) (q : Chance) : Type 0 where
+pub record IsChosen (old : PortState) (faults : List PortFault) (r : Chance) (c : List ℕ)
+    (new : PortState) (more : List PortFault) (q : Chance) : Type 0 where
   pub ends : Ends old faults c new more
   pub at : ends.at ≡ (chosen (length old.posted) r.order).0
-  pub success : status_of c ≡ 0 → q ≡ record (without old ends.command.lba r) { order = (chosen (length old.posted) r.order).1 }
-  pub error : status_of c ≢ 0 → q ≡ record r { order = (chosen (length old.posted) r.order).1; failed = r.failed ++ ends.command ∷ [] }
+  pub success : status_of c ≡ 0
+      → q ≡ record (without old ends.command.lba r) { order = (chosen (length old.posted) r.order).1 }
+  pub error : status_of c ≢ 0
+      → q
+      ≡ record r
+      { order = (chosen (length old.posted) r.order).1; failed = r.failed ++ ends.command ∷ [] }
 
 -- what a step takes of chance
-abbrev pub StepChooses : PortState → List PortFault → Chance → Result Step Off → PortState → List PortFault → Chance → Type 0
+abbrev pub StepChooses : PortState → List PortFault → Chance → Result Step Off → PortState
+    → List PortFault → Chance → Type 0
 StepChooses old faults r (Ok (Done c)) new more q = IsChosen old faults r c new more q
 StepChooses old faults r (Ok Idle) new more q = q ≡ r
 StepChooses old faults r (Err _) new more q = q ≡ r
@@ -80,10 +88,12 @@ abbrev pub with_begun : (lba : ℕ) → (block : List ℕ) → Chance → Chance
 with_begun lba block r = record r { begun = r.begun ++ record { lba = lba; block = block } ∷ [] }
 
 -- what a home write leaves to chance
-abbrev pub HomeChooses : PortState → Chance → (lba : ℕ) → (block : List ℕ) → Result HomeStep Off → PortState → Chance → Type 0
+abbrev pub HomeChooses : PortState → Chance → (lba : ℕ) → (block : List ℕ) → Result HomeStep Off
+    → PortState → Chance → Type 0
 HomeChooses old r lba block (Ok home.Done) new q = q ≡ without old lba r
 HomeChooses old r lba block (Ok (home.Error status)) new q = q ≡ with_begun lba block r
-HomeChooses old r lba block (Err _) new q = ((new ≡ old) × (q ≡ r)) ⊎ ((new ≡ after_begin old lba block) × (q ≡ with_begun lba block r))
+HomeChooses old r lba block (Err _) new q =
+    ((new ≡ old) × (q ≡ r)) ⊎ ((new ≡ after_begin old lba block) × (q ≡ with_begun lba block r))
 
 -- ---- what a cut leaves
 
@@ -109,13 +119,15 @@ torn_slots (suc left) count staged slots rng =
     torn_slots left (count + 1) staged (slice_set slots k slot.0) slot.1
 
 -- the block at this place, of which a write may have changed what it held
-abbrev pub torn_block : List (Option (List ℕ)) → (at : ℕ) → (block : List ℕ) → Lcg → List (Option (List ℕ)) × Lcg
+abbrev pub torn_block : List (Option (List ℕ)) → (at : ℕ) → (block : List ℕ) → Lcg
+    → List (Option (List ℕ)) × Lcg
 torn_block blocks at block rng =
     let held = torn next_block (slice_index_or blocks at None) (Some block) rng in
     (slice_set blocks at held.0, held.1)
 
 -- the blocks of these writes, one after another
-abbrev pub torn_blocks : (place : ℕ → ℕ) → List HomeWrite → List (Option (List ℕ)) → Lcg → List (Option (List ℕ)) × Lcg
+abbrev pub torn_blocks : (place : ℕ → ℕ) → List HomeWrite → List (Option (List ℕ)) → Lcg
+    → List (Option (List ℕ)) × Lcg
 torn_blocks place [] blocks rng = (blocks, rng)
 torn_blocks place (w ∷ writes) blocks rng =
     let held = torn_block blocks (place w.lba) w.block rng in
@@ -124,7 +136,8 @@ torn_blocks place (w ∷ writes) blocks rng =
 -- one more command, at its place by count
 abbrev pub with_command : Command → List Command → List Command
 with_command c [] = c ∷ []
-with_command c (d ∷ commands) = if nat_lt c.count d.count then c ∷ d ∷ commands else d ∷ with_command c commands
+with_command c (d ∷ commands) =
+    if nat_lt c.count d.count then c ∷ d ∷ commands else d ∷ with_command c commands
 
 -- those that failed among those that are posted, by count
 abbrev pub by_count : (failed posted : List Command) → List Command
@@ -142,7 +155,8 @@ in_doubt s r = writes_of (by_count r.failed s.posted) ++ r.begun
 -- count, then the head and the base, where stored and not flushed, and then the uncertain blocks.
 abbrev pub cut_of : PortState → Chance → (pick : ℕ) → PortImage
 cut_of s r pick =
-    let slots = torn_slots (staged_end s - s.flushed_end) s.flushed_end s.staged s.flushed (generator_of pick r.number) in
+    let slots = torn_slots (staged_end s - s.flushed_end) s.flushed_end s.staged s.flushed
+    (generator_of pick r.number) in
     let head = either_of s.head s.stored_head slots.1 in
     let base = either_of s.base s.stored_base head.1 in
     let blocks = torn_blocks (index_of s) (in_doubt s r) s.blocks base.1 in

@@ -1,6 +1,7 @@
 -- What an emulated port answers and counts beyond what every port does.
 use Rattle.std.specs.Prelude.{◌≡◌, ℕ, ◌/◌, ◌%◌, ◌⊎◌, Bool, true, false, List, Option, Result, Ok, Err, nat_eq, if◌then◌else◌}
-use Rattle.mq_blocks.specs.Drive.{PortState, counted, depth}
+use Rattle.mq_blocks.specs.Drive.{PortState, counted}
+use Rattle.mq_blocks.specs.Limits.{depth}
 use Rattle.mq_nvme.specs.Completion.{completion_of, identifier_of}
 use Rattle.mq_drive.specs.Limits.{fails_next}
 use Rattle.mq_drive.specs.Roles.{id_of}
@@ -38,14 +39,18 @@ IsNext s n c = c ≡ completion_of record {
 
 -- what a step counts
 abbrev pub StepCounts : PortState → Counts → Result Step Off → Counts → Type 0
-StepCounts s n (Ok (Done c)) m = IsNext s n c × (m ≡ record { completed = counted n.completed 1; executed = counted n.executed 1 })
+StepCounts s n (Ok (Done c)) m =
+    IsNext s n c × (m ≡ record { completed = counted n.completed 1; executed = counted n.executed 1 })
 StepCounts s n (Ok Idle) m = m ≡ n
 StepCounts s n (Err _) m = m ≡ n
 
 -- what a home write counts
 abbrev pub HomeCounts : PortState → Counts → Result HomeStep Off → Counts → Type 0
-HomeCounts s n (Ok home.Done) m = (fails_next s.fail n.executed ≡ false) × (m ≡ record n { executed = counted n.executed 1 })
-HomeCounts s n (Ok (home.Error status)) m = (fails_next s.fail n.executed ≡ true) × (status ≡ 640) × (m ≡ record n { executed = counted n.executed 1 })
+HomeCounts s n (Ok home.Done) m =
+    (fails_next s.fail n.executed ≡ false) × (m ≡ record n { executed = counted n.executed 1 })
+HomeCounts s n (Ok (home.Error status)) m =
+    (fails_next s.fail n.executed ≡ true) × (status ≡ 640)
+    × (m ≡ record n { executed = counted n.executed 1 })
 HomeCounts s n (Err _) m = m ≡ n
 
 -- the tickets that a step draws: an idle one draws none
@@ -57,4 +62,5 @@ StepTickets limit old (Err _) new = IsRefused limit old new
 -- a home write is two events, of which the first or the second may be refused
 abbrev pub HomeTickets : Option ℕ → List ℕ → Result HomeStep Off → List ℕ → Type 0
 HomeTickets limit old (Ok _) new = (mid : List ℕ) × Happens limit old mid × Happens limit mid new
-HomeTickets limit old (Err _) new = IsRefused limit old new ⊎ ((mid : List ℕ) × Happens limit old mid × IsRefused limit mid new)
+HomeTickets limit old (Err _) new =
+    IsRefused limit old new ⊎ ((mid : List ℕ) × Happens limit old mid × IsRefused limit mid new)

@@ -55,4 +55,5 @@ pub record Lawful (limit seats : ℕ) (s : State (Unit {0}) Tickets) : Type 0 wh
 -- what holds after the one step: the counter's number is the seat's next ticket, and all its tickets differ
 abbrev pub drew : Step (Unit {0}) → Me (Unit {0}) Tickets → ℕ → Me (Unit {0}) Tickets → Type 0
 drew st me n me' =
-    (me' ≡ (record { seats = me.0.seats; drawn = n ∷ me.0.drawn }, me.1)) × ((m : ℕ) → below m (n ∷ me.0.drawn) ≤ m)
+    (me' ≡ (record { seats = me.0.seats; drawn = n ∷ me.0.drawn }, me.1))
+    × ((m : ℕ) → below m (n ∷ me.0.drawn) ≤ m)

@@ -3,7 +3,6 @@ pub mod Emu
 pub mod Emulated
 pub mod Failures
 pub mod Faults
-pub mod Flaky
 pub mod Fuse
 pub mod Happened
 pub mod Limits

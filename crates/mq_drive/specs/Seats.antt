@@ -35,4 +35,6 @@ Happens (Some limit) old new = (above limit old ≡ 0) × ((t : ℕ) × (t < lim
 -- an event is refused: an earlier ticket or the event's own one is at or above the limit
 abbrev pub IsRefused : Option ℕ → List ℕ → List ℕ → Type 0
 IsRefused None old new = ⊥
-IsRefused (Some limit) old new = ((0 < above limit old) × (new ≡ old)) ⊎ ((above limit old ≡ 0) × ((t : ℕ) × (limit ≤ t) × (new ≡ t ∷ old)))
+IsRefused (Some limit) old new =
+    ((0 < above limit old) × (new ≡ old))
+    ⊎ ((above limit old ≡ 0) × ((t : ℕ) × (limit ≤ t) × (new ≡ t ∷ old)))

@@ -2,7 +2,8 @@
 use Rattle.std.specs.Prelude.{◌≡◌, ◌<◌, ◌≤◌, ℕ, ◌+◌, ◌-◌, ◌^◌, Bool, false, List, length, All, Option, IsSome, IsNone, is_some, slice_index_or}
 use Rattle.std.specs.Option.{ForSome, option_to_list}
 use Rattle.std.specs.Coded.{Coded-set, coded_ℕ, coded_bool, coded_list, le_prop}
-use Rattle.mq_blocks.specs.Drive.{AreCounted, AreCounted-prop, depth, usable_depth}
+use Rattle.mq_blocks.specs.Drive.{AreCounted, AreCounted-prop}
+use Rattle.mq_blocks.specs.Limits.{depth, usable_depth}
 use Rattle.mq_blocks.specs.declared.command.Command.{Command}
 use Rattle.mq_blocks.specs.declared.command.HomeWrite.{HomeWrite}
 use Rattle.mq_drive.specs.Failures.{written_by}
@@ -112,18 +113,23 @@ pub record AreWritten (port : Place) (pending posted : List Command) (written : 
   pub under_way_own : ForSome written.under_way (λ w. IsBlock port (length written.stored) w.lba)
   -- the block of a home write that was cut short is not certain
   pub under_way_doubt : ForSome written.under_way (λ w.
-      slice_index_or written.certain (index_in port.area.first port.area.size port.homes.first w.lba) false ≡ false)
+      slice_index_or written.certain
+      (index_in port.area.first port.area.size port.homes.first w.lba) false
+      ≡ false)
 
 -- the events, the failure and the home write that was cut short are as counted
-pub record AreCounts (counted : Counted) (failure : Option Failure) (under_way : Option HomeWrite) : Type 0 where
-  pub events_counted : counted.happened ≡ happened_by counted.events counted.begins (length (option_to_list under_way))
+pub record AreCounts (counted : Counted) (failure : Option Failure)
+    (under_way : Option HomeWrite) : Type 0 where
+  pub events_counted : counted.happened
+      ≡ happened_by counted.events counted.begins (length (option_to_list under_way))
   pub failure_counted : is_some failure ≡ counted.failed
   -- a home write is cut short only where an event is refused
   pub under_way_last : ForSome under_way (λ w. 0 < counted.offs)
 
 -- ---- what holds of the port
 
-pub record IsSound (port : Place) (ring : Slots) (queued : Queued) (kept : Words) (written : Written) (counted : Counted) : Type 0 where
+pub record IsSound (port : Place) (ring : Slots) (queued : Queued) (kept : Words) (written : Written)
+    (counted : Counted) : Type 0 where
   pub place : IsPlaced port (length written.stored)
   pub slots : AreSlots port.role ring kept.doorbell queued.pending
   pub commands : AreQueued queued kept.doorbell kept.head kept.stored_head
@@ -131,5 +137,7 @@ pub record IsSound (port : Place) (ring : Slots) (queued : Queued) (kept : Words
   pub writes : AreWritten port queued.pending queued.posted written
   pub counts : AreCounts counted written.failure written.under_way
 
-pub IsSound-prop : {port : Place} {ring : Slots} {queued : Queued} {kept : Words} {written : Written} {counted : Counted} → IsProp (IsSound port ring queued kept written counted)
+pub IsSound-prop : {port : Place} {ring : Slots} {queued : Queued} {kept : Words} {written : Written}
+    {counted : Counted}
+    → IsProp (IsSound port ring queued kept written counted)
 IsSound-prop = hlevel (AreCounted-prop, le_prop, Coded-set, coded_ℕ, coded_bool, coded_list)

@@ -89,4 +89,5 @@ pub record IsPortOf (g : Geometry) (role : Role) (s : PortState) : Type 0 where
   pub staged : length s.staged ≡ slots_of role
   pub blocks : length s.blocks ≡ area_size_of g role + homes_size_of g role
   pub certain : length s.certain ≡ length s.blocks
-  pub settled : (k : ℕ) → k < length s.flushed → IsFlushed s k → slice_index_or s.flushed k [] ≡ slice_index_or s.staged k []
+  pub settled : (k : ℕ) → k < length s.flushed → IsFlushed s k
+      → slice_index_or s.flushed k [] ≡ slice_index_or s.staged k []

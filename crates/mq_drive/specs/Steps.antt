@@ -1,6 +1,7 @@
 -- What the answers of a port mean.
 use Rattle.std.specs.Prelude.{◌≡◌, ◌≢◌, ◌⊎◌, ◌≤◌, ◌-◌, ◌%◌, ◌^◌, length, ℕ, List, [], ◌∷◌, ◌++◌, Result, Ok, Err, Some, slice_get}
-use Rattle.mq_blocks.specs.Drive.{PortState, Owns, after_done, after_failed, after_begin, after_end, depth}
+use Rattle.mq_blocks.specs.Drive.{PortState, Owns, after_done, after_failed, after_begin, after_end}
+use Rattle.mq_blocks.specs.Limits.{depth}
 use Rattle.mq_blocks.specs.declared.command.Command.{Command}
 use Rattle.mq_nvme.specs.Entry.{IsWrite}
 use Rattle.mq_nvme.specs.Completion.{status_of, identifier_of}
@@ -42,13 +43,15 @@ pub record IsOwnWrite (s : PortState) (at : ℕ) (entry : List ℕ) : Type 0 whe
   pub own : Owns s request.lba
 
 -- a posted command has ended, with success or with an error, as its completion says
-pub record Ends (old : PortState) (faults : List PortFault) (c : List ℕ) (new : PortState) (more : List PortFault) : Type 0 where
+pub record Ends (old : PortState) (faults : List PortFault) (c : List ℕ) (new : PortState)
+    (more : List PortFault) : Type 0 where
   pub at : ℕ
   pub command : Command
   pub posted : slice_get old.posted at ≡ Some command
   pub identifier : identifier_of c ≡ command.count % depth
   pub success : status_of c ≡ 0 → (new ≡ after_done old at command) × (more ≡ faults)
-  pub error : status_of c ≢ 0 → (new ≡ after_failed old at command) × Gains (CommandError command.tx (status_of c)) faults more
+  pub error : status_of c ≢ 0
+      → (new ≡ after_failed old at command) × Gains (CommandError command.tx (status_of c)) faults more
 
 abbrev pub StepGives : PortState → List PortFault → Result Step Off → PortState → List PortFault → Type 0
 StepGives old faults (Ok Idle) new more = (old.posted ≡ []) × (new ≡ old) × (more ≡ faults)
@@ -57,7 +60,11 @@ StepGives old faults (Err _) new more = (old.posted ≢ []) × (new ≡ old) × 
 
 -- a home write has ended, with success or with an error, or the power went off before it began or
 -- before it ended
-abbrev pub HomeGives : PortState → List PortFault → ℕ → List ℕ → Result HomeStep Off → PortState → List PortFault → Type 0
-HomeGives old faults lba block (Ok home.Done) new more = (new ≡ after_end (after_begin old lba block) lba block) × (more ≡ faults)
-HomeGives old faults lba block (Ok (home.Error status)) new more = (status ≢ 0) × (new ≡ after_begin old lba block) × Gains (HomeError lba status) faults more
-HomeGives old faults lba block (Err _) new more = ((new ≡ old) ⊎ (new ≡ after_begin old lba block)) × Gains PowerOff faults more
+abbrev pub HomeGives : PortState → List PortFault → ℕ → List ℕ → Result HomeStep Off → PortState
+    → List PortFault → Type 0
+HomeGives old faults lba block (Ok home.Done) new more =
+    (new ≡ after_end (after_begin old lba block) lba block) × (more ≡ faults)
+HomeGives old faults lba block (Ok (home.Error status)) new more =
+    (status ≢ 0) × (new ≡ after_begin old lba block) × Gains (HomeError lba status) faults more
+HomeGives old faults lba block (Err _) new more =
+    ((new ≡ old) ⊎ (new ≡ after_begin old lba block)) × Gains PowerOff faults more

@@ -1,7 +1,7 @@
 // What a cut of the power leaves of what is not certain.
 ghost use Rattle.std.specs.Prelude.{◌≡◌, ◌≢◌, ◌<◌, ◌≤◌, ◌-◌, ◌%◌, ℕ, List, [], ◌∷◌, length, true, false, All, Option, None, slice_index_or};
+ghost use Rattle.mq_blocks.specs.Limits.{depth};
 ghost use Rattle.std.specs.Option.{ForSome, option_to_list};
-ghost use Rattle.mq_blocks.specs.Drive.{depth};
 ghost use Rattle.mq_blocks.specs.declared.command.Command as command;
 ghost use Rattle.mq_drive.specs.Choices.{torn_slots, torn_block, torn_blocks, writes_of, by_count};
 ghost use Rattle.mq_drive.specs.Slots.{index_in};

@@ -1,7 +1,7 @@
 // What a port in memory keeps, and how it changes.
 ghost use Rattle.std.specs.Prelude.{◌≡◌, ◌<◌, ◌≤◌, ◌-◌, ◌/◌, ◌%◌, ◌^◌, ℕ, [], true, false, IfOk, OnOk, OnErr, All, IsSome, IsNone, IsTrue, ◌↔◌, Some, None, Contains};
+ghost use Rattle.mq_blocks.specs.Limits.{depth, usable_depth};
 ghost use Rattle.std.specs.VecDeque.{deque_capacity};
-ghost use Rattle.mq_blocks.specs.Drive.{depth, usable_depth};
 ghost use Rattle.mq_drive.specs.Fuse.{above, below, earlier};
 ghost use Rattle.mq_drive.specs.Emulated.{phase_after};
 ghost use Rattle.mq_drive.specs.Happened.{happened_in};

@@ -1,5 +1,6 @@
 // A port in memory, whose power may go off and on which one command may fail.
 ghost use Rattle.std.specs.Prelude.{◌≡◌, ◌<◌, ◌≤◌, ◌-◌, ◌^◌, ℕ, [], true, false, IfOk, OnOk, OnErr, IsSome, IsNone, All, Some, None, Contains};
+ghost use Rattle.mq_blocks.specs.Limits.{usable_depth};
 ghost use Rattle.mq_drive.specs.Fuse.{above, below, earlier};
 ghost use Rattle.mq_drive.specs.Happened.{happened_in};
 
@@ -142,7 +143,7 @@ impl<'f> Port for EmuPort<'f> {
     ghost use Rattle.mq_drive.specs.Choices.{StepChooses, HomeChooses};
     ghost use Rattle.mq_drive.specs.Emu.{emu_state, emu_faults, chance_of, counts_of, drawn_by};
     ghost use Rattle.mq_blocks.specs.Drive.{Owns, IsHome, AreFrom, staged_end, after_stage, after_flush};
-    ghost use Rattle.mq_blocks.specs.Drive.{after_ring, after_store_head, after_store_base, usable_depth};
+    ghost use Rattle.mq_blocks.specs.Drive.{after_ring, after_store_head, after_store_base};
     ghost use Rattle.mq_nvme.specs.Entry.{tx_of, lba_of};
     ghost use Rattle.mq_drive.specs.Emulated.{StepCounts, HomeCounts, StepTickets, HomeTickets};
     ghost use Rattle.mq_drive.specs.Seats.{Happens, IsRefused};

@@ -7,7 +7,6 @@ mod device;
 mod emu;
 mod extent;
 mod failing;
-mod flaky;
 mod fuse;
 mod image;
 mod port;
@@ -18,7 +17,6 @@ mod store;
 mod tickets;
 
 pub use emu::EmuPort;
-pub use flaky::FlakyPort;
 pub use fuse::{Fuse, FuseSeat};
 pub use image::PortImage;
 pub use port::{HomeStep, Off, Port, Ports, Step};

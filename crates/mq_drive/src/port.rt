@@ -1,8 +1,9 @@
 // A port of the drive.
 ghost use Rattle.std.specs.Prelude.{◌≡◌, ◌≢◌, ◌⊎◌, ◌<◌, ◌≤◌, ◌+◌, ◌-◌, ◌%◌, ◌^◌, ℕ, List, [], ◌∷◌, length, OnOk, OnErr, IsSome, IsNone, slice_index_or};
+ghost use Rattle.mq_blocks.specs.Limits.{usable_depth};
 ghost use Rattle.mq_blocks.specs.Blocks.{block_at};
 ghost use Rattle.mq_blocks.specs.Drive.{PortState, Owns, IsHome, IsFlushed, IsCertain, AreFrom, index_of, staged_end, after_stage};
-ghost use Rattle.mq_blocks.specs.Drive.{after_flush, after_ring, after_store_head, after_store_base, usable_depth};
+ghost use Rattle.mq_blocks.specs.Drive.{after_flush, after_ring, after_store_head, after_store_base};
 ghost use Rattle.mq_nvme.specs.Entry.{tx_of, lba_of};
 ghost use Rattle.mq_drive.specs.Roles.{role_of};
 ghost use Rattle.mq_drive.specs.Steps.{PortFault, StepGives, HomeGives, OffCause, IsOwnWrite};

@@ -1,9 +1,10 @@
 // The vectors that a port in memory is made of.
 ghost use Rattle.std.specs.Prelude.{◌≡◌, ◌≢◌, ◌<◌, ◌≤◌, ◌+◌, ◌%◌, ◌++◌, ◌∷◌, [], ℕ, length, vec_len, slice_index_or, slice_set, slice_get, Some, None};
+ghost use Rattle.mq_blocks.specs.Limits.{depth};
 ghost use Rattle.std.specs.List.{remove};
 ghost use Rattle.std.specs.VecDeque.{deque_len, deque_capacity};
 ghost use Rattle.mq_blocks.specs.Blocks.{block_at};
-ghost use Rattle.mq_blocks.specs.Drive.{counted, depth};
+ghost use Rattle.mq_blocks.specs.Drive.{counted};
 ghost use Rattle.mq_drive.specs.Slots.{AreSettled};
 
 use mq_blocks::{Block, Command, RING_DEPTH};

@@ -9,8 +9,8 @@ use mq_blocks::{Block, BlockNo, Geometry, OutOfMemory, QueueNo, TxNo};
 use mq_drive::Port;
 use mq_pages::{Kind, Write};
 use mq_pmr::PmrQueue;
+use mq_queue_side::{Fit, QueueSide};
 use mq_revoke::Placement;
-use mq_side::{Fit, QueueSide};
 use std::alloc::Global;
 
 /// One of the two blocks, by its number among the home blocks: it is in the metadata region.

@@ -20,10 +20,13 @@ use Rattle.mq_tree.specs.Volume.{File, Volume, body, node}
 -- Where a file is cut to `size` bytes: a block from that of the first byte that goes on, its block of
 -- pointers, or the bitmap of the zone of a block that is freed.
 pub data LooksCut (g : Geometry) (v : Volume) (i size b : ℕ) : Type 0 where
-  part : (place : ℕ) → size / 4096 ≤ place → slice_get (node v i).blocks place ≡ Some b → LooksCut g v i size b
+  part : (place : ℕ) → size / 4096 ≤ place → slice_get (node v i).blocks place ≡ Some b
+      → LooksCut g v i size b
   pointers : (node v i).indirect ≡ Some b → LooksCut g v i size b
-  marks : (place c : ℕ) → blocks_for size ≤ place → slice_get (node v i).blocks place ≡ Some c → b ≡ zone_bitmap (zone_in g c) → LooksCut g v i size b
-  pointer_marks : (c : ℕ) → blocks_for size ≤ 12 → (node v i).indirect ≡ Some c → b ≡ zone_bitmap (zone_in g c) → LooksCut g v i size b
+  marks : (place c : ℕ) → blocks_for size ≤ place → slice_get (node v i).blocks place ≡ Some c
+      → b ≡ zone_bitmap (zone_in g c) → LooksCut g v i size b
+  pointer_marks : (c : ℕ) → blocks_for size ≤ 12 → (node v i).indirect ≡ Some c
+      → b ≡ zone_bitmap (zone_in g c) → LooksCut g v i size b
 
 -- ---- the plan
 
@@ -39,7 +42,8 @@ pub record HoldsCut (g : Geometry) (pages : Pages) (m : Cutting) : Type 0 where
   pub last : HoldsPlaces pages m.file.blocks.items (m.size / 4096) (blocks_for m.size)
   pub blocks : All (IsReleasable g pages) (drop (blocks_for m.size) m.file.blocks.items)
   pub pointers : HoldsPointers pages m.file
-  pub release : blocks_for m.size ≤ 12 → 12 < length m.file.blocks.items → IsReleasable g pages m.file.inode.indirect
+  pub release : blocks_for m.size ≤ 12 → 12 < length m.file.blocks.items
+      → IsReleasable g pages m.file.inode.indirect
 
 -- ---- what is written
 
@@ -50,4 +54,6 @@ pub record IsBlankPut (old new : Working) (b from : ℕ) : Type 0 where
 
 -- the same behind the last byte of a file of this size, where its last block has such bytes
 abbrev pub IsBlanked : (old new : Working) → (blocks : List ℕ) → (size : ℕ) → Type 0
-IsBlanked old new blocks size = ((size % 4096 ≡ 0) × (new ≡ old)) ⊎ ((size % 4096 ≢ 0) × IsBlankPut old new (slice_index blocks (size / 4096)) (size % 4096))
+IsBlanked old new blocks size =
+    ((size % 4096 ≡ 0) × (new ≡ old))
+    ⊎ ((size % 4096 ≢ 0) × IsBlankPut old new (slice_index blocks (size / 4096)) (size % 4096))

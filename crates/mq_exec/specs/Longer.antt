@@ -14,7 +14,8 @@ abbrev pub longer_needs : Volume → (i size : ℕ) → ℕ
 longer_needs v i size = needs (length (node v i).blocks) (blocks_for size)
 
 -- the file gets other bytes, `size` in all
-pub record IsRewriting (g : Geometry) (q : ℕ) (v : Volume) (i size : ℕ) (verdict : Verdict) (rewritten : List ℕ → List ℕ) (bytes : List ℕ) : Type 0 where
+pub record IsRewriting (g : Geometry) (q : ℕ) (v : Volume) (i size : ℕ) (verdict : Verdict)
+    (rewritten : List ℕ → List ℕ) (bytes : List ℕ) : Type 0 where
   pub is : body v i ≡ File bytes
   pub makes : verdict ≡ Makes (longer_needs v i size) (resized g q v i (rewritten bytes))
   pub length_is : length (rewritten bytes) ≡ size
@@ -23,6 +24,10 @@ pub record IsRewriting (g : Geometry) (q : ℕ) (v : Volume) (i size : ℕ) (ver
 -- of pointers, a block that it takes, or one that it has at a byte that is written.
 pub data LooksLonger (g : Geometry) (q : ℕ) (v : Volume) (i size at count b : ℕ) : Type 0 where
   short : IsSearched g q v (longer_needs v i size) b → LooksLonger g q v i size at count b
-  indirect : (picks : List ℕ) → ArePicked g q v (longer_needs v i size) picks → (node v i).indirect ≡ Some b → LooksLonger g q v i size at count b
-  picked : (picks : List ℕ) → ArePicked g q v (longer_needs v i size) picks → Contains picks b → LooksLonger g q v i size at count b
-  part : (picks : List ℕ) → ArePicked g q v (longer_needs v i size) picks → (place : ℕ) → at / 4096 ≤ place → place < past_place at count → slice_get (node v i).blocks place ≡ Some b → LooksLonger g q v i size at count b
+  indirect : (picks : List ℕ) → ArePicked g q v (longer_needs v i size) picks
+      → (node v i).indirect ≡ Some b → LooksLonger g q v i size at count b
+  picked : (picks : List ℕ) → ArePicked g q v (longer_needs v i size) picks → Contains picks b
+      → LooksLonger g q v i size at count b
+  part : (picks : List ℕ) → ArePicked g q v (longer_needs v i size) picks → (place : ℕ)
+      → at / 4096 ≤ place → place < past_place at count → slice_get (node v i).blocks place ≡ Some b
+      → LooksLonger g q v i size at count b

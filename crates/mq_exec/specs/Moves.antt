@@ -39,10 +39,12 @@ pub record LeadsTo (g : Geometry) (view changed : Pages) (v w : Volume) : Type 0
 
 -- The volumes show the same at each block that is neither written nor freed.
 abbrev pub KeepsRest : Geometry → (v w : Volume) → List Write → List ℕ → Type 0
-KeepsRest g v w writes frees = (b : ℕ) → ((x : Write) → Contains writes x → x.block ≢ b) → (Contains frees b → ⊥) → SameAt g v w b
+KeepsRest g v w writes frees =
+    (b : ℕ) → ((x : Write) → Contains writes x → x.block ≢ b) → (Contains frees b → ⊥) → SameAt g v w b
 
 -- A transaction of a map writes just these contents, in whatever order, and frees just these blocks.
 pub record IsChangeOf (t : Transaction) (writes : List Write) (frees : List ℕ) : Type 0 where
-  pub only : (b : ℕ) (page : List ℕ) → write_of t.writes b ≡ Some page → (x : Write) × Contains writes x × (x.block ≡ b) × (x.content ≡ page)
+  pub only : (b : ℕ) (page : List ℕ) → write_of t.writes b ≡ Some page
+      → (x : Write) × Contains writes x × (x.block ≡ b) × (x.content ≡ page)
   pub all : (x : Write) → Contains writes x → write_of t.writes x.block ≡ Some x.content
   pub freed : (b : ℕ) → (is_among b t.freed ≡ true) ↔ Contains frees b

@@ -25,7 +25,8 @@ pub record AreKnown (pages : Pages) (done : Carried) : Type 0 where
   pub freed : (b : ℕ) → Contains done.frees.items b → pages b ≢ None
 
 -- The replies are the group's, and writes and frees are its change; the volume after it is sound.
-pub record IsDone (g : Geometry) (q : ℕ) (v : Volume) (requests : List Request) (done : Carried) : Type 0 where
+pub record IsDone (g : Geometry) (q : ℕ) (v : Volume) (requests : List Request)
+    (done : Carried) : Type 0 where
   pub replies : done.replies.items ≡ replies g q v requests
   pub moves : Moves g v (after_group g q v requests) done.writes.items done.frees.items
   pub rest : KeepsRest g v (after_group g q v requests) done.writes.items done.frees.items
@@ -41,8 +42,11 @@ pub record IsRequested (g : Geometry) (pages : Pages) (looks : ℕ → Type 0) (
 -- Where the group is done, this holds on each volume of which the pages may be a part. Else pages are asked
 -- for at which the group looks on each of these volumes.
 abbrev pub Answers : Geometry → (queue : ℕ) → Pages → List Request → Outcome → Type 0
-Answers g q pages requests (Done done) = AreKnown pages done × ((v : Volume) → Agrees g pages v → IsDone g q v requests done)
-Answers g q pages requests (Need blocks) = IsRequested g pages (λ b. (v : Volume) → Agrees g pages v → GroupLooks g q v requests b) blocks.items
+Answers g q pages requests (Done done) =
+    AreKnown pages done × ((v : Volume) → Agrees g pages v → IsDone g q v requests done)
+Answers g q pages requests (Need blocks) =
+    IsRequested g pages
+    (λ b. (v : Volume) → Agrees g pages v → GroupLooks g q v requests b) blocks.items
 
 -- exactly the missing blocks, each once and in rising order
 pub record AreEachOnce (lacked named : List ℕ) : Type 0 where

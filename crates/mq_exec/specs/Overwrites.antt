@@ -8,7 +8,9 @@ use Rattle.mq_pages.specs.declared.page.Kind.TheVariants.{Data}
 
 -- no block stands twice
 abbrev pub AreApart : List ℕ → Type 0
-AreApart blocks = (j k : ℕ) → j < length blocks → k < length blocks → slice_index blocks j ≡ slice_index blocks k → j ≡ k
+AreApart blocks =
+    (j k : ℕ) → j < length blocks → k < length blocks → slice_index blocks j ≡ slice_index blocks k
+    → j ≡ k
 
 -- the place behind that of the last of `count` bytes at an offset
 abbrev pub past_place : (at count : ℕ) → ℕ
@@ -23,7 +25,9 @@ abbrev pub text_from : (at place : ℕ) → ℕ
 text_from at place = max at (4096 * place) - 4096 * place
 
 abbrev pub text_in : (at : ℕ) → List ℕ → (place : ℕ) → List ℕ
-text_in at bytes place = take (min (at + length bytes) (4096 * place + 4096) - max at (4096 * place)) (drop (max at (4096 * place) - at) bytes)
+text_in at bytes place =
+    take (min (at + length bytes) (4096 * place + 4096) - max at (4096 * place))
+    (drop (max at (4096 * place) - at) bytes)
 
 -- The file has the bytes of a text at an offset, and is as before beside them.
 pub record IsSplicedAt (at : ℕ) (text bytes now : List ℕ) : Type 0 where
@@ -38,8 +42,14 @@ pub record IsPartWritten (old new : Pages) (b at : ℕ) (bytes : List ℕ) (plac
   pub is : after ≡ written before (text_from at place) (text_in at bytes place)
 
 -- The blocks from that of the first byte on, and before a place, have their parts of the bytes.
-pub record IsOverwritten (old new : Working) (blocks : List ℕ) (at : ℕ) (bytes : List ℕ) (past : ℕ) : Type 0 where
-  pub parts : (place : ℕ) → at / 4096 ≤ place → place < past → IsPartWritten (pages_of old) (pages_of new) (slice_index blocks place) at bytes place
-  pub kinds : (place : ℕ) → at / 4096 ≤ place → place < past → kinds_of new (slice_index blocks place) ≡ Some Data
-  pub rest : (b : ℕ) → ((place : ℕ) → at / 4096 ≤ place → place < past → slice_index blocks place ≢ b) → pages_of new b ≡ pages_of old b
-  pub kinds_rest : (b : ℕ) → ((place : ℕ) → at / 4096 ≤ place → place < past → slice_index blocks place ≢ b) → kinds_of new b ≡ kinds_of old b
+pub record IsOverwritten (old new : Working) (blocks : List ℕ) (at : ℕ) (bytes : List ℕ)
+    (past : ℕ) : Type 0 where
+  pub parts : (place : ℕ) → at / 4096 ≤ place → place < past
+      → IsPartWritten (pages_of old) (pages_of new) (slice_index blocks place) at bytes place
+  pub kinds : (place : ℕ) → at / 4096 ≤ place → place < past
+      → kinds_of new (slice_index blocks place) ≡ Some Data
+  pub rest : (b : ℕ) → ((place : ℕ) → at / 4096 ≤ place → place < past → slice_index blocks place ≢ b)
+      → pages_of new b ≡ pages_of old b
+  pub kinds_rest : (b : ℕ)
+      → ((place : ℕ) → at / 4096 ≤ place → place < past → slice_index blocks place ≢ b)
+      → kinds_of new b ≡ kinds_of old b

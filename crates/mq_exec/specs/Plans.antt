@@ -41,7 +41,8 @@ abbrev pub IsCarried : Geometry → Volume → Verdict → (next : Volume) → T
 IsCarried g v verdict next = carried_out g v verdict ≡ record { reply = Ready; next = next }
 
 -- it was answered so, and the pages carry the volume that it makes
-pub record ComesTo (g : Geometry) (v : Volume) (verdict : Verdict) (reply : Reply) (old new : Working) : Type 0 where
+pub record ComesTo (g : Geometry) (v : Volume) (verdict : Verdict) (reply : Reply)
+    (old new : Working) : Type 0 where
   pub reply_is : reply ≡ (carried_out g v verdict).reply
   pub becomes : Becomes g v (carried_out g v verdict).next old new
 
@@ -54,8 +55,10 @@ make_request false path = Create path
 abbrev pub made_entry : Path → Creation → Entry
 made_entry path m = record { inode = m.inode; name = last_of (way path) }
 
-pub record PlansMake (g : Geometry) (q : ℕ) (v : Volume) (new : Body) (path : Path) (m : Creation) : Type 0 where
-  pub carried : IsCarried g v (make g q v new (target v (way path))) (linked g q (with_inode v m.inode new) m.directory.number (made_entry path m))
+pub record PlansMake (g : Geometry) (q : ℕ) (v : Volume) (new : Body) (path : Path)
+    (m : Creation) : Type 0 where
+  pub carried : IsCarried g v (make g q v new (target v (way path)))
+      (linked g q (with_inode v m.inode new) m.directory.number (made_entry path m))
   pub low : m.inode < inodes_of g
   pub free : body v m.inode ≡ Free
   pub link : MayLink g q v m.directory (made_entry path m) m.picks.items
@@ -80,9 +83,11 @@ pub record IsSeen (g : Geometry) (pages : Pages) (m : Creation) : Type 0 where
 
 -- ---- removing
 
-pub record PlansRemove (g : Geometry) (v : Volume) (verdict : Verdict) (path : Path) (m : Removal) : Type 0 where
+pub record PlansRemove (g : Geometry) (v : Volume) (verdict : Verdict) (path : Path)
+    (m : Removal) : Type 0 where
   pub target_is : target v (way path) ≡ In m.directory.number (last_of (way path)) (Some m.gone.number)
-  pub carried : IsCarried g v verdict (freed (unlinked v m.directory.number (last_of (way path))) m.gone.number)
+  pub carried : IsCarried g v verdict
+      (freed (unlinked v m.directory.number (last_of (way path))) m.gone.number)
   pub unlink : MayUnlink g v m.directory.number m.directory.blocks.items
   pub found : find (last_of (way path)) (slots_of (body v m.directory.number)) ≡ Some m.gone.number
   pub gone : IsOpened g v m.gone
@@ -118,10 +123,13 @@ abbrev pub is_full : (from into : ℕ) → List (Option Entry) → Bool
 is_full from into slots = if nat_eq from into then false else nat_le names_limit (count_names slots)
 
 pub record PlansRename (g : Geometry) (q : ℕ) (v : Volume) (from to : Path) (m : Renaming) : Type 0 where
-  pub carried : IsCarried g v (rename g q v from to (target v (way from))) (linked g q (unlinked v m.source.number (last_of (way from))) m.directory.number (moved_entry to m))
+  pub carried : IsCarried g v (rename g q v from to (target v (way from)))
+      (linked g q (unlinked v m.source.number (last_of (way from))) m.directory.number
+      (moved_entry to m))
   pub unlink : MayUnlink g v m.source.number m.source.blocks.items
   pub found : find (last_of (way from)) (slots_of (body v m.source.number)) ≡ Some m.inode
-  pub link : MayLink g q (unlinked v m.source.number (last_of (way from))) m.directory (moved_entry to m) m.picks.items
+  pub link : MayLink g q (unlinked v m.source.number (last_of (way from))) m.directory
+      (moved_entry to m) m.picks.items
 
 pub record HoldsRename (g : Geometry) (pages : Pages) (m : Renaming) : Type 0 where
   pub source : AreDirsAt pages m.source.blocks.items
@@ -134,7 +142,8 @@ pub record HoldsRename (g : Geometry) (pages : Pages) (m : Renaming) : Type 0 wh
 
 -- ---- files
 
-abbrev pub on_body : (act : ℕ → List ℕ → ℕ → List ℕ → Verdict) → (d : ℕ) → (name : List ℕ) → ℕ → Body → Verdict
+abbrev pub on_body : (act : ℕ → List ℕ → ℕ → List ℕ → Verdict) → (d : ℕ) → (name : List ℕ) → ℕ → Body
+    → Verdict
 on_body act d name i Free = refused NotFound
 on_body act d name i (File bytes) = act d name i bytes
 on_body act d name i (Dir slots) = refused IsDir
@@ -152,7 +161,8 @@ pub record IsFound (v : Volume) (path : Path) (f : Found) : Type 0 where
   pub file : IsFileOf v f.number f.inode
 
 -- A file gets other bytes, and is as long as before or longer.
-pub record PlansRewrite (g : Geometry) (q : ℕ) (v : Volume) (verdict : Verdict) (rewritten : List ℕ → List ℕ) (m : Rewriting) : Type 0 where
+pub record PlansRewrite (g : Geometry) (q : ℕ) (v : Volume) (verdict : Verdict)
+    (rewritten : List ℕ → List ℕ) (m : Rewriting) : Type 0 where
   pub bytes : List ℕ
   pub is : body v m.file.number ≡ File bytes
   pub carried : IsCarried g v verdict (resized g q v m.file.number (rewritten bytes))
@@ -169,4 +179,6 @@ pub record HoldsRewrite (g : Geometry) (pages : Pages) (m : Rewriting) : Type 0 
 
 -- the blocks that a file has from a place on, and before another, are held
 abbrev pub HoldsPlaces : Pages → (blocks : List ℕ) → (first past : ℕ) → Type 0
-HoldsPlaces pages blocks first past = (place : ℕ) → first ≤ place → place < past → place < length blocks → IsHeld pages (slice_index blocks place)
+HoldsPlaces pages blocks first past =
+    (place : ℕ) → first ≤ place → place < past → place < length blocks
+    → IsHeld pages (slice_index blocks place)

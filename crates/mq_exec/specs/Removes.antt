@@ -13,11 +13,15 @@ pub record IsInZones (g : Geometry) (b : ℕ) : Type 0 where
 
 -- the blocks of an inode as they are known, and its block of pointers behind them
 abbrev pub owned : Opened → List ℕ
-owned o = if nat_lt 12 (length o.blocks.items) then o.blocks.items ++ o.inode.indirect ∷ [] else o.blocks.items
+owned o =
+    if nat_lt 12 (length o.blocks.items) then o.blocks.items ++ o.inode.indirect ∷ []
+    else o.blocks.items
 
 -- a block of the inode, or the bitmap of its zone
 abbrev pub LooksGone : Geometry → Volume → (i b : ℕ) → Type 0
-LooksGone g v i b = (has_block (node v i) b ≡ true) ⊎ ((c : ℕ) × (has_block (node v i) c ≡ true) × (b ≡ zone_bitmap (zone_in g c)))
+LooksGone g v i b =
+    (has_block (node v i) b ≡ true)
+    ⊎ ((c : ℕ) × (has_block (node v i) c ≡ true) × (b ≡ zone_bitmap (zone_in g c)))
 
 -- or the bitmap of inodes
 abbrev pub LooksFreed : Geometry → Volume → (i b : ℕ) → Type 0

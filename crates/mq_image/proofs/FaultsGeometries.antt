@@ -4,7 +4,7 @@ use Rattle.std.specs.Prelude.{Some, Result, Ok, Err, IsOk, IsErrOf, nat_le, ◌&
 use Rattle.std.proofs.lemmas.Bool.{cases_Bool, both_ways, and_from, and_parts, le-leb, leb-true}
 use Rattle.std.proofs.Math.Bridge.{le_prop}
 use mathlib.Core.HLevel.{is_prop→PathP}
-use Rattle.mq_blocks.specs.Geometry.{IsQueues, IsArea, AreHomes, queues_of, area_of, meta_of, zone_size}
+use Rattle.mq_blocks.specs.Geometry.{IsQueues, IsArea, AreHomes, shaped, queues_of, area_of, meta_of, zone_size}
 use Rattle.mq_blocks.specs.declared.geometry.Geometry.{Geometry}
 use Rattle.mq_blocks.specs.declared.geometry.GeometryRefusal.{GeometryRefusal}
 use Rattle.mq_blocks.specs.declared.geometry.GeometryRefusal.TheVariants.{Queues, Area, Homes}
@@ -105,19 +105,7 @@ some_shape file = elim (cases_Bool (nat_le 1 (queues_in file) && nat_le (queues_
               | inl all ↦
                   let u = and_parts _ _ all in
                   let v = and_parts _ _ u.1 in (
-                    Ok (record {
-                      queues = queues_in file;
-                      area = area_in file;
-                      meta = meta_in file;
-                      zone = zone_in file;
-                      queues_low = q.0;
-                      queues_high = q.1;
-                      area_low = a.0;
-                      area_high = a.1;
-                      meta_low = leb-true _ _ u.0;
-                      zone_low = leb-true _ _ v.0;
-                      homes_high = leb-true _ _ v.1;
-                    }),
+                    Ok (shaped (queues_in file) (area_in file) (meta_in file) (zone_in file) q a (leb-true _ _ u.0, leb-true _ _ v.0, leb-true _ _ v.1)),
                     record { queues = refl; area = refl; meta = refl; zone = refl },
                   )
             ]

@@ -9,7 +9,8 @@ use Rattle.std.proofs.lemmas.List.Elements.{All-append, All-head, All-tail, All-
 use Rattle.std.proofs.lemmas.Nat.{mul-le}
 use Rattle.byteorder.specs.Endian.{little_number}
 use Rattle.mq_blocks.specs.Descriptor.{list_bytes}
-use Rattle.mq_blocks.specs.Drive.{PortImage, depth}
+use Rattle.mq_blocks.specs.Limits.{depth}
+use Rattle.mq_blocks.specs.Drive.{PortImage}
 use Rattle.mq_blocks.specs.Geometry.{queues_of, area_of, meta_of, zone_size, blocks_of_drive}
 use Rattle.mq_blocks.specs.Windows.{Shows, number_at}
 use Rattle.mq_blocks.specs.declared.geometry.Geometry.{Geometry}

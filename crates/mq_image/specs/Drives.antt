@@ -12,7 +12,8 @@ use Rattle.mq_image.specs.File.{DriveImage, IsBlockSized, image_bytes, kept, nam
 -- one port for each role of the geometry, each with the slots, blocks and zeros of its role
 pub record IsDrive (x : DriveImage) : Type 0 where
   pub ports : length x.ports ≡ queues_of x.geometry + 1
-  pub queues : (q : ℕ) → q < queues_of x.geometry → IsImageOf x.geometry (Queue q) (slice_index_or x.ports q no_image)
+  pub queues : (q : ℕ) → q < queues_of x.geometry
+      → IsImageOf x.geometry (Queue q) (slice_index_or x.ports q no_image)
   pub root : IsImageOf x.geometry Root (root_port x)
 
 -- the words, the slots and the blocks of a port fit their places in the file
@@ -35,4 +36,5 @@ pub record IsRead (x : DriveImage) (file : List ℕ) : Type 0 where
   pub drive : IsDrive x
   pub widths : All HasWidths x.ports
   pub bytes : file ≡ image_bytes x
-  pub kept_is : map kept (namespace x.geometry (queue_ports x) (root_port x)) ≡ namespace x.geometry (queue_ports x) (root_port x)
+  pub kept_is : map kept (namespace x.geometry (queue_ports x) (root_port x))
+      ≡ namespace x.geometry (queue_ports x) (root_port x)

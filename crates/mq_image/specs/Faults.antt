@@ -47,9 +47,11 @@ pub record IsGeometryIn (file : List ℕ) (g : Geometry) : Type 0 where
 abbrev pub HasShape : List ℕ → Result Geometry GeometryRefusal → Type 0
 HasShape file (Ok g) = IsGeometryIn file g
 HasShape file (Err (Queues found)) = (IsQueues (queues_in file) → ⊥) × (found ≡ queues_in file)
-HasShape file (Err (Area found)) = IsQueues (queues_in file) × (IsArea (area_in file) → ⊥) × (found ≡ area_in file)
+HasShape file (Err (Area found)) =
+    IsQueues (queues_in file) × (IsArea (area_in file) → ⊥) × (found ≡ area_in file)
 HasShape file (Err (Homes meta zone)) =
-    IsQueues (queues_in file) × IsArea (area_in file) × (AreHomes (queues_in file) (meta_in file) (zone_in file) → ⊥)
+    IsQueues (queues_in file) × IsArea (area_in file)
+    × (AreHomes (queues_in file) (meta_in file) (zone_in file) → ⊥)
     × (meta ≡ meta_in file) × (zone ≡ zone_in file)
 
 abbrev pub geometry_fault : Result Geometry GeometryRefusal → Option FileFault
@@ -110,7 +112,8 @@ extra_fault end file = unless (nat_le (length file) end) (Extra (length file - e
 
 -- the first fault of a file with this geometry
 abbrev pub body_fault : Geometry → List ℕ → Option FileFault
-body_fault g file = or_then (length_fault g file) (or_then (block_fault g file) (extra_fault (blocks_end file) file))
+body_fault g file =
+    or_then (length_fault g file) (or_then (block_fault g file) (extra_fault (blocks_end file) file))
 
 -- the first fault of a file of this shape
 unfoldable pub fault_of : Result Geometry GeometryRefusal → List ℕ → Option FileFault
@@ -134,8 +137,11 @@ Refuses fault cause = fault ≡ Some cause
 
 -- whatever the shape of the file's numbers, this is its first fault, unless memory ran out
 abbrev pub RefusesIn : List ℕ → FileFault → Type 0
-RefusesIn file e = (shape : Result Geometry GeometryRefusal) → HasShape file shape → Refuses (fault_of shape file) e
+RefusesIn file e =
+    (shape : Result Geometry GeometryRefusal) → HasShape file shape → Refuses (fault_of shape file) e
 
 -- a reading finds the first fault of the file, or none, unless memory runs out
 abbrev pub FindsFirst : {X : Type 0} → List ℕ → Result X FileFault → Type 0
-FindsFirst file result = (fault : Option FileFault) → HasFault file fault → MatchResult result (λ _. fault ≡ None) (Refuses fault)
+FindsFirst file result =
+    (fault : Option FileFault) → HasFault file fault
+    → MatchResult result (λ _. fault ≡ None) (Refuses fault)

@@ -1,7 +1,8 @@
 -- What the parts of a file are read as.
 use Rattle.std.specs.Prelude.{◌≡◌, ◌<◌, ◌≤◌, ℕ, ◌+◌, ◌*◌, List, ◌++◌, Option, length, take, slice_index_or}
 use Rattle.std.specs.List.{All, flat_map}
-use Rattle.mq_blocks.specs.Drive.{PortImage, depth}
+use Rattle.mq_blocks.specs.Drive.{PortImage}
+use Rattle.mq_blocks.specs.Limits.{depth}
 use Rattle.mq_blocks.specs.Geometry.{queues_of, area_of, meta_of, zone_size}
 use Rattle.mq_blocks.specs.Windows.{window}
 use Rattle.mq_blocks.specs.declared.geometry.Geometry.{Geometry}
@@ -27,13 +28,15 @@ pub record IsAreaPort (g : Geometry) (p : PortImage) : Type 0 where
   pub widths : HasWidths p
 
 -- it was read as the port of this queue
-pub record IsAreaRead (g : Geometry) (file : List ℕ) (queue : ℕ) (old new : Place) (p : PortImage) : Type 0 where
+pub record IsAreaRead (g : Geometry) (file : List ℕ) (queue : ℕ) (old new : Place)
+    (p : PortImage) : Type 0 where
   pub port : IsAreaPort g p
   pub span : IsSpan file old new p.blocks
   pub ring : ring_bytes p ≡ window file (40 + 65552 * queue) 65552
 
 -- the ports of the first `count` queues were read
-pub record AreAreasRead (g : Geometry) (file : List ℕ) (count : ℕ) (old new : Place) (ports : List PortImage) : Type 0 where
+pub record AreAreasRead (g : Geometry) (file : List ℕ) (count : ℕ) (old new : Place)
+    (ports : List PortImage) : Type 0 where
   pub count_is : length ports ≡ count
   pub each : All (λ p. IsAreaPort g p) ports
   pub blocks : length (all_blocks ports) ≡ count * area_of g
@@ -52,7 +55,8 @@ abbrev pub with_zone : PortImage → List (Option (List ℕ)) → PortImage
 with_zone p zone = record p { blocks = p.blocks ++ zone }
 
 -- the zones of the first `count` ports were read, and the others have none yet
-pub record AreZonesRead (g : Geometry) (file : List ℕ) (count : ℕ) (old new : Place) (before ports : List PortImage) : Type 0 where
+pub record AreZonesRead (g : Geometry) (file : List ℕ) (count : ℕ) (old new : Place)
+    (before ports : List PortImage) : Type 0 where
   pub count_is : length ports ≡ length before
   pub done : (k : ℕ) → k < count → IsQueuePort g (slice_index_or ports k no_image)
   pub rest : (k : ℕ) → count ≤ k → k < length ports → IsAreaPort g (slice_index_or ports k no_image)
@@ -71,10 +75,12 @@ pub record IsRootPort (g : Geometry) (base : ℕ) (p : PortImage) : Type 0 where
   pub widths : HasWidths p
 
 -- all ports were read
-pub record ArePortsRead (g : Geometry) (base : ℕ) (file : List ℕ) (old new : Place) (ports : List PortImage) : Type 0 where
+pub record ArePortsRead (g : Geometry) (base : ℕ) (file : List ℕ) (old new : Place)
+    (ports : List PortImage) : Type 0 where
   pub count_is : length ports ≡ queues_of g + 1
   pub queues : (q : ℕ) → q < queues_of g → IsQueuePort g (slice_index_or ports q no_image)
   pub root : IsRootPort g base (slice_index_or ports (queues_of g) no_image)
   pub past : IsPast file old new old.size
-  pub span : IsSpan file old new (namespace g (take (queues_of g) ports) (slice_index_or ports (queues_of g) no_image))
+  pub span : IsSpan file old new
+      (namespace g (take (queues_of g) ports) (slice_index_or ports (queues_of g) no_image))
   pub rings : flat_map ring_bytes (take (queues_of g) ports) ≡ window file 40 (65552 * queues_of g)

@@ -1,7 +1,7 @@
 // A queue's words and ring in a file.
 ghost use Rattle.std.specs.Prelude.{◌≡◌, ◌≤◌, ◌<◌, ◌+◌, ◌*◌, ◌^◌, ◌++◌, ℕ, [], All, length, IfOk};
+ghost use Rattle.mq_blocks.specs.Limits.{depth};
 ghost use Rattle.std.specs.List.{flat_map};
-ghost use Rattle.mq_blocks.specs.Drive.{depth};
 ghost use Rattle.mq_blocks.specs.Windows.{window, number_at, Shows};
 ghost use Rattle.mq_nvme.specs.Dwords.{AreDwords, dword_bytes};
 

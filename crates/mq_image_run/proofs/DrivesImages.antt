@@ -4,9 +4,9 @@ use Rattle.mq_blocks.specs.Drive.{FuseName, PortImage}
 use Rattle.mq_blocks.specs.declared.geometry.Geometry.{Geometry}
 use Rattle.mq_image.specs.Drives.{IsDrive}
 use Rattle.mq_image.specs.File.{DriveImage}
-use Rattle.mq_images.specs.Recovering.{IsRecoveryOf}
-use Rattle.mq_images.specs.declared.recovery.RecoveredImage.{RecoveredImage}
-use Rattle.mq_images.proofs.CutsRecoverings.{left-drive}
+use Rattle.mq_image_ops.specs.Recovering.{IsRecoveryOf}
+use Rattle.mq_image_ops.specs.declared.recovery.RecoveredImage.{RecoveredImage}
+use Rattle.mq_image_ops.proofs.CutsRecoverings.{left-drive}
 use Rattle.mq_script.specs.Scripts.{Script}
 use Rattle.mq_image_run.specs.Drives.{HasStopped}
 use Rattle.mq_image_run.specs.declared.options.RunOptions.{RunOptions}

@@ -7,9 +7,9 @@ use Rattle.mq_drive.specs.Emu.{emu_state}
 use Rattle.mq_drive.specs.declared.emu.EmuPort.{EmuPort}
 use Rattle.mq_drive.specs.declared.port.Ports.{Ports}
 use Rattle.mq_image.specs.File.{DriveImage}
-use Rattle.mq_images.specs.Refusals.{refusal_of}
-use Rattle.mq_images.specs.Starts.{AreStarted}
-use Rattle.mq_images.specs.declared.ports.Failing.{Failing}
+use Rattle.mq_image_ops.specs.Refusals.{refusal_of}
+use Rattle.mq_image_ops.specs.Starts.{AreStarted}
+use Rattle.mq_image_ops.specs.declared.ports.Failing.{Failing}
 use Rattle.mq_recover.specs.Drives.{drive_of}
 use Rattle.mq_tree.specs.declared.corrupt.MountRefusal.{MountRefusal}
 use Rattle.mq_tree.specs.declared.corrupt.MountRefusal.TheVariants.{Corrupt, OutOfMemory}

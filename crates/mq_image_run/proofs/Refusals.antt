@@ -6,18 +6,18 @@ use Rattle.mq_blocks.specs.declared.geometry.Geometry.{Geometry}
 use Rattle.mq_calls.specs.Mounting.{IsNotMounted, corrupt}
 use Rattle.mq_drive.specs.Emu.{emu_state}
 use Rattle.mq_image.specs.File.{DriveImage}
-use Rattle.mq_images.specs.Laws.{RecoveredDrivesHoldTheBlocks}
-use Rattle.mq_images.specs.Recovering.{IsRecoveryOf}
-use Rattle.mq_images.specs.Refusals.{refusal_for}
-use Rattle.mq_images.specs.Standing.{RefusesDrive, StandsFor}
-use Rattle.mq_images.specs.Standing as standing
-use Rattle.mq_images.specs.Views.{view_of}
-use Rattle.mq_images.specs.declared.ports.Failing.{Failing}
-use Rattle.mq_images.specs.declared.recovery.RecoveredImage.{RecoveredImage}
-use Rattle.mq_images.specs.declared.refusal.StandingRefusal.{StandingRefusal}
-use Rattle.mq_images.specs.declared.refusal.StandingRefusal.TheVariants.{Corrupt, Image, OutOfMemory}
-use Rattle.mq_images.proofs.Standing.{read-refused}
-use Rattle.mq_images.proofs.StandingVolumes.{stands-refused}
+use Rattle.mq_image_ops.specs.Laws.{RecoveredDrivesHoldTheBlocks}
+use Rattle.mq_image_ops.specs.Recovering.{IsRecoveryOf}
+use Rattle.mq_image_ops.specs.Refusals.{refusal_for}
+use Rattle.mq_image_ops.specs.Standing.{RefusesDrive, StandsFor}
+use Rattle.mq_image_ops.specs.Standing as standing
+use Rattle.mq_image_ops.specs.Views.{view_of}
+use Rattle.mq_image_ops.specs.declared.ports.Failing.{Failing}
+use Rattle.mq_image_ops.specs.declared.recovery.RecoveredImage.{RecoveredImage}
+use Rattle.mq_image_ops.specs.declared.refusal.StandingRefusal.{StandingRefusal}
+use Rattle.mq_image_ops.specs.declared.refusal.StandingRefusal.TheVariants.{Corrupt, Image, OutOfMemory}
+use Rattle.mq_image_ops.proofs.Standing.{read-refused}
+use Rattle.mq_image_ops.proofs.StandingVolumes.{stands-refused}
 use Rattle.mq_recover.proofs.DrivesImages.{read-same}
 use Rattle.mq_recover.specs.Drives.{drive_of}
 use Rattle.mq_recover.specs.declared.refusal.ImageFault.{ImageFault}

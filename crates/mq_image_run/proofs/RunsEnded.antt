@@ -6,7 +6,7 @@ use Rattle.mq_checkpoint.specs.declared.refusal.CheckpointRefusal.{CheckpointRef
 use Rattle.mq_checkpoint.specs.declared.refusal.CheckpointRefusal.TheVariants as checkpoint
 use Rattle.mq_report.specs.declared.line.Last.{Last}
 use Rattle.mq_report.specs.declared.line.Last.TheVariants.{Clean}
-use Rattle.mq_side.specs.declared.answers.Cause.{Cause}
+use Rattle.mq_queue_side.specs.declared.answers.Cause.{Cause}
 use Rattle.mq_image_run.specs.Runs.{IsLast}
 
 pub none-is : {A : Type 0} (o : Option A) (b : Bool) → is_some o ≡ not b → b ≡ is_none o

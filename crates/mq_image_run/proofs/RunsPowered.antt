@@ -21,14 +21,14 @@ use Rattle.mq_drive.specs.declared.port.Ports.{Ports}
 use Rattle.mq_drive.proofs.StepsFaults.{some_off}
 use Rattle.mq_image.specs.Drives.{IsDrive}
 use Rattle.mq_image.specs.File.{DriveImage}
-use Rattle.mq_images.specs.Cuts.{row_of}
+use Rattle.mq_image_ops.specs.Cuts.{row_of}
 use Rattle.mq_journal.specs.Draining.{report_of}
 use Rattle.mq_recover.specs.Drives.{faults_on}
 use Rattle.mq_run.specs.Laws.{StopsAreBacked}
 use Rattle.mq_script.specs.Scripts.{Script}
-use Rattle.mq_side.specs.declared.answers.Cause.{Cause}
-use Rattle.mq_side.specs.declared.answers.Cause.TheVariants as cause
-use Rattle.mq_side.specs.declared.answers.Why.TheVariants as why
+use Rattle.mq_queue_side.specs.declared.answers.Cause.{Cause}
+use Rattle.mq_queue_side.specs.declared.answers.Cause.TheVariants as cause
+use Rattle.mq_queue_side.specs.declared.answers.Why.TheVariants as why
 use Rattle.mq_tie.specs.Backed.{IsBehind, IsBehindAt}
 use Rattle.mq_turns.specs.declared.rule.Report.{Report}
 use Rattle.mq_turns.specs.declared.rule.Report.TheVariants as report

@@ -13,10 +13,10 @@ use Rattle.mq_drive.specs.declared.emu.EmuPort.{EmuPort}
 use Rattle.mq_drive.specs.declared.fuse.FuseSeat.{FuseSeat}
 use Rattle.mq_image.specs.Drives.{IsDrive}
 use Rattle.mq_image.specs.File.{DriveImage}
-use Rattle.mq_images.specs.Cuts.{CutPort, IsCutPort, row_of}
-use Rattle.mq_images.proofs.CutsRows.{seats-long, seats-own}
-use Rattle.mq_images.proofs.CutsRecoverings.{row-each, row-long}
-use Rattle.mq_images.proofs.Views.{start-queue}
+use Rattle.mq_image_ops.specs.Cuts.{CutPort, IsCutPort, row_of}
+use Rattle.mq_image_ops.proofs.CutsRows.{seats-long, seats-own}
+use Rattle.mq_image_ops.proofs.CutsRecoverings.{row-each, row-long}
+use Rattle.mq_image_ops.proofs.Views.{start-queue}
 use Rattle.mq_ledger.specs.State.{port_at}
 use Rattle.mq_recover.specs.Drives.{DriveState, drive_of}
 use Rattle.mq_recover.proofs.DrivesZones.{IsZone, port_in}

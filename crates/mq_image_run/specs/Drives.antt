@@ -15,11 +15,11 @@ use Rattle.mq_drive.specs.declared.fuse.FuseSeat.{FuseSeat}
 use Rattle.mq_drive.specs.declared.port.Port.{Ghosts}
 use Rattle.mq_drive.specs.declared.port.Ports.{Ports}
 use Rattle.mq_image.specs.File.{DriveImage}
-use Rattle.mq_images.specs.Cuts.{AreCutPorts, row_of}
-use Rattle.mq_images.specs.Starts.{AreSeeded, AreStarted}
-use Rattle.mq_images.specs.declared.ports.Failing.{Failing}
-use Rattle.mq_images.specs.declared.refusal.StandingRefusal.{StandingRefusal}
-use Rattle.mq_images.specs.declared.refusal.StandingRefusal.TheVariants.{Corrupt, Image, OutOfMemory}
+use Rattle.mq_image_ops.specs.Cuts.{AreCutPorts, row_of}
+use Rattle.mq_image_ops.specs.Starts.{AreSeeded, AreStarted}
+use Rattle.mq_image_ops.specs.declared.ports.Failing.{Failing}
+use Rattle.mq_image_ops.specs.declared.refusal.StandingRefusal.{StandingRefusal}
+use Rattle.mq_image_ops.specs.declared.refusal.StandingRefusal.TheVariants.{Corrupt, Image, OutOfMemory}
 use Rattle.mq_recover.specs.Drives.{AreBoundsKept, ArePorts, drive_of}
 use Rattle.mq_recover.specs.Standing.{StandsIn}
 use Rattle.mq_recover.specs.declared.standing.Standing.{Standing}
@@ -64,7 +64,8 @@ emu_ghosts = ghosts
 -- checkpoint. The ports that came back are those of the drive still, each with its fuse and its failing
 -- command. Then the power of all of them was cut with the pick that was asked for, and their seats came
 -- back.
-pub record HasDriven (g : Geometry) (ports : Ports EmuPort) (standing : Standing) (scripts : List Script) (o : RunOptions) (d : Driven) (seats : List FuseSeat) : Type 0 where
+pub record HasDriven (g : Geometry) (ports : Ports EmuPort) (standing : Standing)
+    (scripts : List Script) (o : RunOptions) (d : Driven) (seats : List FuseSeat) : Type 0 where
   pub end : RunEnd EmuPort
   pub ran : HasRunScripts emu_ghosts emu_state emu_faults g ports standing scripts (is_none o.cut) end
   pub same_ports : ArePorts g (drive_of emu_state end.ports)
@@ -79,7 +80,8 @@ pub record HasDriven (g : Geometry) (ports : Ports EmuPort) (standing : Standing
 -- that were asked for, over the volume that stands there: the pick is the seed of what each port left to
 -- chance at the start. No port had executed a command then: so the command that was to fail is that of this
 -- number, on the port of this number, that was executed since.
-pub record IsDriven (fuse : FuseName) (y : DriveImage) (scripts : List Script) (o : RunOptions) (d : Driven) (seats : List FuseSeat) : Type 0 where
+pub record IsDriven (fuse : FuseName) (y : DriveImage) (scripts : List Script) (o : RunOptions)
+    (d : Driven) (seats : List FuseSeat) : Type 0 where
   pub ports : Ports EmuPort
   pub started : AreStarted fuse o.fail y ports
   pub seeded : AreSeeded y.geometry o.pick ports
@@ -92,20 +94,26 @@ pub record IsDriven (fuse : FuseName) (y : DriveImage) (scripts : List Script) (
 -- What was driven, once the fuse was closed. With a limit, the events are those that happened on all ports:
 -- at most the limit, and just the limit where a port refused one for its power. Without a limit no port
 -- refused one for its power, and where the failing command was not executed either, no port has a fault.
-pub record HasStopped (fuse : FuseName) (y : DriveImage) (scripts : List Script) (o : RunOptions) (s : Stopped) : Type 0 where
+pub record HasStopped (fuse : FuseName) (y : DriveImage) (scripts : List Script) (o : RunOptions)
+    (s : Stopped) : Type 0 where
   pub seats : List FuseSeat
   pub drives : IsDriven fuse y scripts o s.driven seats
-  pub happened : (l : ℕ) → fuse.limit ≡ Some l → (s.events ≡ events_on (row_of drives.has.end.ports)) × (s.events ≤ l)
-  pub off : (l : ℕ) (p : EmuPort) → fuse.limit ≡ Some l → Contains (row_of drives.has.end.ports) p → Contains (emu_faults p) PowerOff → s.events ≡ l
-  pub powered : (p : EmuPort) → fuse.limit ≡ None → Contains (row_of drives.has.end.ports) p → Contains (emu_faults p) PowerOff → ⊥
-  pub sound : (p : EmuPort) → fuse.limit ≡ None → s.driven.failed ≡ false → Contains (row_of drives.has.end.ports) p → emu_faults p ≡ []
+  pub happened : (l : ℕ) → fuse.limit ≡ Some l
+      → (s.events ≡ events_on (row_of drives.has.end.ports)) × (s.events ≤ l)
+  pub off : (l : ℕ) (p : EmuPort) → fuse.limit ≡ Some l → Contains (row_of drives.has.end.ports) p
+      → Contains (emu_faults p) PowerOff → s.events ≡ l
+  pub powered : (p : EmuPort) → fuse.limit ≡ None → Contains (row_of drives.has.end.ports) p
+      → Contains (emu_faults p) PowerOff → ⊥
+  pub sound : (p : EmuPort) → fuse.limit ≡ None → s.driven.failed ≡ false
+      → Contains (row_of drives.has.end.ports) p → emu_faults p ≡ []
 
 -- ---- where no volume stands
 
 -- What stands on the drive that starts from the image holds no volume, and this is wrong at this block.
 abbrev pub HoldsNone : FuseName → Option Failing → DriveImage → CorruptCause → (block : ℕ) → Type 0
 HoldsNone fuse fail y cause block =
-    (ports : Ports EmuPort) × AreStarted fuse fail y ports × IsNotMounted y.geometry (drive_of emu_state ports) (mount.Corrupt cause block)
+    (ports : Ports EmuPort) × AreStarted fuse fail y ports
+    × IsNotMounted y.geometry (drive_of emu_state ports) (mount.Corrupt cause block)
 
 -- why no script is run: memory runs out, or no volume stands
 abbrev pub IsNotDriven : FuseName → Option Failing → DriveImage → StandingRefusal → Type 0

@@ -2,7 +2,7 @@
 use Rattle.std.specs.Prelude.{◌≡◌, ◌⊎◌, ◌<◌, ◌≤◌, ◌^◌, ℕ}
 use Rattle.mq_blocks.specs.Geometry.{queues_of}
 use Rattle.mq_image.specs.File.{DriveImage}
-use Rattle.mq_images.specs.Views.{view_of}
+use Rattle.mq_image_ops.specs.Views.{view_of}
 
 abbrev pub run_limit : ℕ
 run_limit = 2 ^ 62
@@ -20,4 +20,5 @@ AreWithin x base = AreBelow (queues_of x.geometry) x base
 abbrev pub IsFirstAbove : DriveImage → (base : ℕ) → ℕ → Type 0
 IsFirstAbove x base n =
     (run_limit < n)
-    × ((n ≡ base) ⊎ ((q : ℕ) × (q < queues_of x.geometry) × AreBelow q x base × (n ≡ (view_of x).doorbell q)))
+    × ((n ≡ base)
+    ⊎ ((q : ℕ) × (q < queues_of x.geometry) × AreBelow q x base × (n ≡ (view_of x).doorbell q)))

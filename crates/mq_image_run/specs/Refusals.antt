@@ -2,9 +2,9 @@
 use Rattle.std.specs.Prelude.{ℕ, List, Option}
 use Rattle.mq_blocks.specs.Descriptor.{Descriptor}
 use Rattle.mq_image.specs.File.{DriveImage}
-use Rattle.mq_images.specs.Standing.{AreStanding, Reads, RefusesDrive}
-use Rattle.mq_images.specs.declared.refusal.StandingRefusal.{StandingRefusal}
-use Rattle.mq_images.specs.declared.refusal.StandingRefusal.TheVariants.{Corrupt, Image, OutOfMemory}
+use Rattle.mq_image_ops.specs.Standing.{AreStanding, Reads, RefusesDrive}
+use Rattle.mq_image_ops.specs.declared.refusal.StandingRefusal.{StandingRefusal}
+use Rattle.mq_image_ops.specs.declared.refusal.StandingRefusal.TheVariants.{Corrupt, Image, OutOfMemory}
 use Rattle.mq_recover.specs.declared.refusal.ImageFault.{ImageFault}
 use Rattle.mq_recover.specs.declared.refusal.ImageFault.TheVariants.{Limit}
 use Rattle.mq_tree.specs.Corrupt.{IsCorrupt}
@@ -17,6 +17,10 @@ use Rattle.mq_image_run.specs.Limits.{AreWithin, IsFirstAbove}
 -- out, which is also the refusal if a script has too many groups or requests to be counted in 32 bits.
 pub data RefusesRun (x : DriveImage) : StandingRefusal → Type 0 where
   not_readable : (e : ImageFault) → RefusesDrive x e → RefusesRun x (Image e)
-  above_limit : {n : ℕ} (ds : List Descriptor) (top : ℕ) → Reads x ds top → IsFirstAbove x top n → RefusesRun x (Image (Limit n))
-  not_mounted : {cause : _} {b : ℕ} (ds : List Descriptor) (top : ℕ) (stored : List (Option (List ℕ))) → Reads x ds top → AreWithin x top → AreStanding x ds stored → ((v : Volume) → IsLaid x.geometry (map_of x.geometry stored) v → ⊥) → IsCorrupt x.geometry stored cause b → RefusesRun x (Corrupt cause b)
+  above_limit : {n : ℕ} (ds : List Descriptor) (top : ℕ) → Reads x ds top → IsFirstAbove x top n
+      → RefusesRun x (Image (Limit n))
+  not_mounted : {cause : _} {b : ℕ} (ds : List Descriptor) (top : ℕ) (stored : List (Option (List ℕ)))
+      → Reads x ds top → AreWithin x top → AreStanding x ds stored
+      → ((v : Volume) → IsLaid x.geometry (map_of x.geometry stored) v → ⊥)
+      → IsCorrupt x.geometry stored cause b → RefusesRun x (Corrupt cause b)
   wanting : RefusesRun x OutOfMemory

@@ -6,14 +6,14 @@ use Rattle.mq_checkpoint.specs.declared.refusal.CheckpointRefusal.{CheckpointRef
 use Rattle.mq_checkpoint.specs.declared.refusal.CheckpointRefusal.TheVariants as checkpoint
 use Rattle.mq_image.specs.Drives.{HasWidths, IsDrive}
 use Rattle.mq_image.specs.File.{DriveImage}
-use Rattle.mq_images.specs.Recovering.{IsRecoveryOf}
-use Rattle.mq_images.specs.declared.recovery.RecoveredImage.{RecoveredImage}
+use Rattle.mq_image_ops.specs.Recovering.{IsRecoveryOf}
+use Rattle.mq_image_ops.specs.declared.recovery.RecoveredImage.{RecoveredImage}
 use Rattle.mq_report.specs.declared.line.Last.{Last}
 use Rattle.mq_report.specs.declared.line.Last.TheVariants.{Clean, Cut, StoppedBlock, StoppedTx}
 use Rattle.mq_run.specs.Playing.{IsShort}
 use Rattle.mq_script.specs.Scripts.{Script}
-use Rattle.mq_side.specs.declared.answers.Cause.{Cause}
-use Rattle.mq_side.specs.declared.answers.Cause.TheVariants as cause
+use Rattle.mq_queue_side.specs.declared.answers.Cause.{Cause}
+use Rattle.mq_queue_side.specs.declared.answers.Cause.TheVariants as cause
 use Rattle.mq_image_run.specs.Drives.{HasStopped}
 use Rattle.mq_image_run.specs.Limits.{AreWithin}
 use Rattle.mq_image_run.specs.declared.options.RunOptions.{RunOptions}

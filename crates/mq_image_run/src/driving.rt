@@ -5,9 +5,9 @@ ghost use Rattle.mq_blocks.specs.Geometry.{queues_of};
 ghost use Rattle.mq_drive.specs.Seats.{name_of};
 ghost use Rattle.mq_image.specs.Drives.{IsDrive};
 ghost use Rattle.mq_image.specs.File.{DriveImage as Image};
-ghost use Rattle.mq_images.specs.Cuts.{row_of};
-ghost use Rattle.mq_images.specs.Recovering.{IsRecoveryOf};
-ghost use Rattle.mq_images.specs.Starts.{AreFreshSeats};
+ghost use Rattle.mq_image_ops.specs.Cuts.{row_of};
+ghost use Rattle.mq_image_ops.specs.Recovering.{IsRecoveryOf};
+ghost use Rattle.mq_image_ops.specs.Starts.{AreFreshSeats};
 ghost use Rattle.mq_calls.specs.Opening.{MayOpen};
 ghost use Rattle.mq_drive.specs.Emu.{emu_state};
 ghost use Rattle.mq_image_run.specs.Drives.{HasDriven, IsDriven, IsNotDriven, has_failed};
@@ -19,7 +19,7 @@ use mq_blocks::{Geometry, OutOfMemory, TxNo};
 use mq_calls::{Gate, find_volume};
 use mq_checkpoint::CheckpointRefusal;
 use mq_drive::{EmuPort, Fuse, FuseSeat, PortImage, Ports};
-use mq_images::{
+use mq_image_ops::{
     CutDrive, RecoveredImage, StandingRefusal, a_recovered_image_holds_what_stood,
     a_recovered_image_starts, cut_ports, start_ports,
 };

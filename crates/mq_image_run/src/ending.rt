@@ -5,8 +5,8 @@ ghost use Rattle.mq_run.specs.Ending.{IsAskedFor};
 
 use mq_blocks::{OutOfMemory, TxNo};
 use mq_checkpoint::CheckpointRefusal;
+use mq_queue_side::Cause;
 use mq_report::Last;
-use mq_side::Cause;
 
 // What is reported of a checkpoint at the end that the drive refused while its power was on.
 fn stop_of(cause: Cause) -> Last

@@ -1,5 +1,5 @@
 // What a run is asked for.
-use mq_images::Failing;
+use mq_image_ops::Failing;
 
 /// The options of a run, beside its image and its scripts.
 #[derive(Clone, Copy)]

@@ -7,8 +7,8 @@ ghost use Rattle.mq_image.specs.Drives.{IsDrive};
 ghost use Rattle.mq_image_run.specs.Limits.{AreWithin};
 ghost use Rattle.mq_image_run.specs.Refusals.{RefusesRun};
 ghost use Rattle.mq_image_run.specs.Runs.{IsRunOf};
-ghost use Rattle.mq_images.specs.Recovering.{IsRecoveryOf};
-ghost use Rattle.mq_images.specs.Standing.{StandsFor};
+ghost use Rattle.mq_image_ops.specs.Recovering.{IsRecoveryOf};
+ghost use Rattle.mq_image_ops.specs.Standing.{StandsFor};
 ghost use Rattle.mq_run.specs.Playing.{IsShort};
 ghost use Rattle.mq_tree.specs.Volume.{Volume};
 
@@ -21,7 +21,7 @@ use mq_blocks::TxNo;
 use mq_calls::Gate;
 use mq_drive::EmuPort;
 use mq_image::DriveImage;
-use mq_images::{
+use mq_image_ops::{
     RecoveredImage, StandingRefusal, a_recovered_image_holds_what_stood, an_image_fits_its_file,
     drive_power, recover_image,
 };

@@ -5,15 +5,15 @@ ghost use Rattle.mq_blocks.specs.Geometry.{queues_of};
 ghost use Rattle.mq_drive.specs.Seats.{name_of, ports_of};
 ghost use Rattle.mq_image.specs.File.{DriveImage as Image};
 ghost use Rattle.mq_image_run.specs.Drives.{HasStopped, IsNotDriven};
-ghost use Rattle.mq_images.specs.Recovering.{IsRecoveryOf};
-ghost use Rattle.mq_images.specs.Starts.{AreFreshSeats};
+ghost use Rattle.mq_image_ops.specs.Recovering.{IsRecoveryOf};
+ghost use Rattle.mq_image_ops.specs.Starts.{AreFreshSeats};
 ghost use Rattle.mq_run.specs.Playing.{IsShort};
 
 use crate::driving::{Driven, run_drive};
 use crate::options::RunOptions;
 use mq_calls::Gate;
 use mq_drive::{Fuse, FuseSeat};
-use mq_images::{RecoveredImage, StandingRefusal};
+use mq_image_ops::{RecoveredImage, StandingRefusal};
 use mq_script::Script;
 use std::alloc::Global;
 use std::sync::Wait;

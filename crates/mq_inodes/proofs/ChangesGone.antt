@@ -14,7 +14,7 @@ use Rattle.mq_inodes.specs.Opened.{IsOpened, IsReleasable, cut_file}
 use Rattle.mq_inodes.specs.Pages.{IsHeld, Pages, content}
 use Rattle.mq_inodes.specs.Released.{IsReleased, gone_from}
 use Rattle.mq_inodes.specs.declared.opened.Opened.{Opened}
-use Rattle.mq_inodes.proofs.ChangesLists.{bitmap-zone, bitmaps, if_some, indirect-among, listed-drop, part-gone, pointers-gone}
+use Rattle.mq_inodes.proofs.ChangesLists.{bitmap-zone, bitmaps, if_some, indirect-among, listed-drop, part-gone, pointers-gone, some-is}
 use Rattle.mq_layout.specs.Places.{zone_bitmap}
 use Rattle.mq_layout.specs.declared.inode.Inode.{Inode}
 use Rattle.mq_tree.specs.Laid.{or_zero}
@@ -41,10 +41,6 @@ gone-opened g v o count p =
     own None false e = refl
     own (Some p) true e = refl
     own (Some p) false e = absurd (true≢false e)
-
-pub some-is : (x : Option ℕ) (c : ℕ) → is_among c (if_some x) ≡ true → x ≡ Some c
-some-is None c e = absurd (true≢false (sym e))
-some-is (Some p) c e = ap (λ (y : ℕ). Some y) (sym (among-one p c e))
 
 pub gone-has : (g : Geometry) (v : Volume) (i count : ℕ) (bytes : List ℕ) (c : ℕ) → AreUses g v → i < length v → is_among c (gone_node count (node v i)) ≡ true → (has_block (node v i) c ≡ true) × (has_block (node (cut_file v i count bytes) i) c ≡ false)
 gone-has g v i count bytes c uses low e = elim (among-either (drop count (node v i).blocks) (if nat_lt 12 count then [] else if_some (node v i).indirect) c e) [

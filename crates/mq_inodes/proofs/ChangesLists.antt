@@ -3,7 +3,7 @@ use Rattle.std.proofs.Common.{◌≡◌, ℕ, zero, suc, ◌<◌, ◌≤◌, ◌
 use Rattle.std.specs.Prelude.{Option, Some, None, ◌||◌, nat_eq, nat_lt, slice_get, if◌then◌else◌}
 use Rattle.std.proofs.lemmas.Bool.{cases_Bool, false_from_ne_true, or_cases, true≢false}
 use Rattle.std.proofs.lemmas.Option.{none-some, same_Some, slice_get_within}
-use Rattle.mq_blocks.proofs.JournalAmong.{among-behind, among-cons, among-either, among-here, among-left, among-right}
+use Rattle.mq_blocks.proofs.JournalAmong.{among-behind, among-cons, among-either, among-here, among-left, among-one, among-right}
 use Rattle.mq_blocks.specs.Geometry.{queues_of}
 use Rattle.mq_blocks.specs.Journal.{is_among}
 use Rattle.mq_blocks.specs.declared.geometry.Geometry.{Geometry}
@@ -46,6 +46,10 @@ bitmap-zone (x ∷ zs) b e = elim (among-cons (zone_bitmap x) b (bitmaps zs) e) 
 abbrev pub if_some : Option ℕ → List ℕ
 if_some None = []
 if_some (Some p) = p ∷ []
+
+pub some-is : (x : Option ℕ) (c : ℕ) → is_among c (if_some x) ≡ true → x ≡ Some c
+some-is None c e = absurd (true≢false (sym e))
+some-is (Some p) c e = ap (λ (y : ℕ). Some y) (sym (among-one p c e))
 
 abbrev pub own_blocks : Node → List ℕ
 own_blocks n = n.blocks ++ if_some n.indirect
@@ -208,13 +212,6 @@ cut-listed g v i count bytes zs uses low zones zone_low = record {
 
     rest : (c : ℕ) → is_among c (if_some (node v i).indirect ++ more) ≡ true → is_among c (cut_list g i count zs (node v i)) ≡ true
     rest c e = among-behind (inode_block g i) c (if_some (node v i).indirect ++ more) e
-
-    some-is : (o : Option ℕ) (c : ℕ) → is_among c (if_some o) ≡ true → o ≡ Some c
-    some-is None c e = absurd (true≢false (sym e))
-    some-is (Some p) c e = elim (among-cons p c [] e) [
-      | inl same ↦ ap (λ (x : ℕ). Some x) (sym same)
-      | inr none ↦ absurd (true≢false (sym none))
-    ]
 
     pointers-kept : (nat_lt 12 count ≡ true) ⊎ (nat_lt 12 count ≡ false) → (c : ℕ) → (node v i).indirect ≡ Some c → ((node w i).indirect ≡ Some c) ⊎ ((has_block (node v i) c ≡ true) × (has_block (node w i) c ≡ false))
     pointers-kept (inl y) c e = inl (ap (λ (n : Node). n.indirect) here ∙ ap (λ (t : Bool). if t then (node v i).indirect else None) y ∙ e)

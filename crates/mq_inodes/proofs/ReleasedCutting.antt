@@ -21,9 +21,9 @@ use Rattle.mq_inodes.proofs.PagesHeld.{held-known, held-same, table-low}
 use Rattle.mq_inodes.proofs.OpenedLookups.{opened-pointers}
 use Rattle.mq_inodes.proofs.ChangesBodies.{inode-form}
 use Rattle.mq_inodes.proofs.ChangesCut.{AreCut, cut-step}
-use Rattle.mq_inodes.proofs.ChangesGone.{bitmap-in, cleared-by, gone-has, gone-left, gone-opened, gone_node, listed-zone, some-is, zone-listed, zones_of}
+use Rattle.mq_inodes.proofs.ChangesGone.{bitmap-in, cleared-by, gone-has, gone-left, gone-opened, gone_node, listed-zone, zone-listed, zones_of}
 use Rattle.mq_inodes.proofs.ChangesKinds.{meta-not-data, pointers-not-file}
-use Rattle.mq_inodes.proofs.ChangesLists.{cut-listed, cut_list, if_some, listed-drop}
+use Rattle.mq_inodes.proofs.ChangesLists.{cut-listed, cut_list, if_some, listed-drop, some-is}
 use Rattle.mq_inodes.proofs.ChangesVolumes.{cut-uses}
 use Rattle.mq_inodes.proofs.LaidPadded.{padded-cut, padded-past}
 use Rattle.mq_inodes.proofs.Released.{high-marks, released-meta}

@@ -63,9 +63,12 @@ pub record IsKept (v w : Volume) (b : ℕ) : Type 0 where
 pub record ChangesAt (g : Geometry) (v w : Volume) (i : ℕ) (blocks : List ℕ) : Type 0 where
   pub others : AreOthers v w i
   -- of its own blocks
-  pub own : (b : ℕ) → is_among b blocks ≡ false → ((has_block (node v i) b ≡ false) × (has_block (node w i) b ≡ false)) ⊎ IsKept v w b
+  pub own : (b : ℕ) → is_among b blocks ≡ false
+      → ((has_block (node v i) b ≡ false) × (has_block (node w i) b ≡ false)) ⊎ IsKept v w b
   -- of the bitmaps of the zones
-  pub marks : (zone k : ℕ) → zone < queues_of g → k < zone_size g → is_among (zone_bitmap zone) blocks ≡ false → has_block (node v i) (zone_block g zone k) ≡ has_block (node w i) (zone_block g zone k)
+  pub marks : (zone k : ℕ) → zone < queues_of g → k < zone_size g
+      → is_among (zone_bitmap zone) blocks ≡ false
+      → has_block (node v i) (zone_block g zone k) ≡ has_block (node w i) (zone_block g zone k)
   pub inode_marks : is_among (inode_bitmap g) blocks ≡ false → is_used (body v i) ≡ is_used (body w i)
   pub table : is_among (inode_block g i) blocks ≡ false → inode_of (node v i) ≡ inode_of (node w i)
 
@@ -147,7 +150,8 @@ pub record IsCleared (g : Geometry) (old new : Pages) (zone : ℕ) (gone : ℕ �
   pub after : List ℕ
   pub turns : Turns old new (zone_bitmap zone) before after
   pub clear : (k : ℕ) → k < zone_size g → gone (zone_block g zone k) ≡ true → bit_of after k ≡ 0
-  pub rest : (k : ℕ) → (k < zone_size g → gone (zone_block g zone k) ≡ false) → bit_of after k ≡ bit_of before k
+  pub rest : (k : ℕ) → (k < zone_size g → gone (zone_block g zone k) ≡ false)
+      → bit_of after k ≡ bit_of before k
 
 -- An inode was written, among other changes.
 pub record IsInodeTurned (g : Geometry) (old new : Pages) (i : ℕ) (inode : Inode) : Type 0 where

@@ -28,8 +28,10 @@ pub record HasKind (w : Working) (x : Write) : Type 0 where
 -- What changed over the pages of a view, `changed` having the pages that were put.
 pub record Differs (view changed : Pages) (writes : List Write) (frees : List ℕ) : Type 0 where
   pub writes_rise : AllPairs (λ x y. x.block < y.block) writes
-  pub written : (x : Write) → Contains writes x → (changed x.block ≡ Some (Some x.content)) × (view x.block ≢ Some (Some x.content))
-  pub writes_all : (b : ℕ) (page : List ℕ) → changed b ≡ Some (Some page) → view b ≢ Some (Some page) → (x : Write) × Contains writes x × (x.block ≡ b) × (x.content ≡ page)
+  pub written : (x : Write) → Contains writes x
+      → (changed x.block ≡ Some (Some x.content)) × (view x.block ≢ Some (Some x.content))
+  pub writes_all : (b : ℕ) (page : List ℕ) → changed b ≡ Some (Some page) → view b ≢ Some (Some page)
+      → (x : Write) × Contains writes x × (x.block ≡ b) × (x.content ≡ page)
   pub frees_rise : AllPairs (λ b c. b < c) frees
   pub freed : (b : ℕ) → Contains frees b → (changed b ≡ Some None) × IsHeld view b
   pub frees_all : (b : ℕ) → changed b ≡ Some None → IsHeld view b → Contains frees b

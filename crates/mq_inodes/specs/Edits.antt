@@ -61,7 +61,8 @@ pub record Carries (g : Geometry) (pages : Pages) (v : Volume) : Type 0 where
 
 -- a block of the zones was put as data exactly where it has a part of a file
 abbrev pub KindsFit : Geometry → (ℕ → Option Kind) → Volume → Type 0
-KindsFit g kinds v = (b : ℕ) (kind : Kind) → meta_of g ≤ b → kinds b ≡ Some kind → (kind ≡ Data) ↔ IsOfFile v b
+KindsFit g kinds v =
+    (b : ℕ) (kind : Kind) → meta_of g ≤ b → kinds b ≡ Some kind → (kind ≡ Data) ↔ IsOfFile v b
 
 -- What the pages carry became another volume, which is the same at each block that is not known.
 pub record Becomes (g : Geometry) (v w : Volume) (old new : Working) : Type 0 where

@@ -46,7 +46,9 @@ kind_in i = if nat_eq i.kind 2 then Meta else Data
 
 -- the volume in which the block was taken
 abbrev pub with_one : Volume → ℕ → (b : ℕ) → Volume
-with_one v i b = if nat_eq (length (node v i).blocks) 12 && is_none (node v i).indirect then with_pointers v i (Some b) else with_block v i (Some b)
+with_one v i b =
+    if nat_eq (length (node v i).blocks) 12 && is_none (node v i).indirect
+    then with_pointers v i (Some b) else with_block v i (Some b)
 
 -- The inode of a file or directory may get this free block. Its block of pointers may be there right before
 -- the thirteenth block.

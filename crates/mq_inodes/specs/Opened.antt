@@ -40,7 +40,8 @@ abbrev pub HoldsPointers : Pages → Opened → Type 0
 HoldsPointers pages o = 12 < length o.blocks.items → IsHeld pages o.inode.indirect
 
 -- the inode of a file or directory may get `count` blocks more
-pub record MayGrow (g : Geometry) (q : ℕ) (v : Volume) (o : Opened) (picks : List ℕ) (count : ℕ) : Type 0 where
+pub record MayGrow (g : Geometry) (q : ℕ) (v : Volume) (o : Opened) (picks : List ℕ)
+    (count : ℕ) : Type 0 where
   pub opened : IsOpened g v o
   pub queue : q < queues_of g
   pub within : IsWithin (body v o.number) (length o.blocks.items)
@@ -48,7 +49,8 @@ pub record MayGrow (g : Geometry) (q : ℕ) (v : Volume) (o : Opened) (picks : L
   pub picked : ArePicked g q v (needs (length o.blocks.items) (length o.blocks.items + count)) picks
 
 -- and it has got them
-pub record HasGrown (g : Geometry) (q : ℕ) (v : Volume) (old new : Working) (before after : Opened) (count : ℕ) : Type 0 where
+pub record HasGrown (g : Geometry) (q : ℕ) (v : Volume) (old new : Working) (before after : Opened)
+    (count : ℕ) : Type 0 where
   pub number : after.number ≡ before.number
   pub becomes : Becomes g v (grown g q v before.number count) old new
   pub opened : IsOpened g (grown g q v before.number count) after
@@ -62,10 +64,12 @@ pub record MayUnlink (g : Geometry) (v : Volume) (d : ℕ) (blocks : List ℕ) :
   pub is : body v d ≡ Dir slots
   pub blocks_are : blocks ≡ (node v d).blocks
   pub size : length slots ≡ 15 * length blocks
-  pub apart : (k l : ℕ) (e f : Entry) → slice_index_or slots k None ≡ Some e → slice_index_or slots l None ≡ Some f → e.name ≡ f.name → k ≡ l
+  pub apart : (k l : ℕ) (e f : Entry) → slice_index_or slots k None ≡ Some e
+      → slice_index_or slots l None ≡ Some f → e.name ≡ f.name → k ≡ l
 
 -- An entry may be added to a directory: in an unused slot, or in a block more.
-pub record MayLink (g : Geometry) (q : ℕ) (v : Volume) (o : Opened) (entry : Entry) (picks : List ℕ) : Type 0 where
+pub record MayLink (g : Geometry) (q : ℕ) (v : Volume) (o : Opened) (entry : Entry)
+    (picks : List ℕ) : Type 0 where
   pub opened : IsOpened g v o
   pub queue : q < queues_of g
   pub slots : List (Option Entry)

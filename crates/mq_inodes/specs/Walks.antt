@@ -62,9 +62,11 @@ LooksIn g v d b = (b ≡ inode_block g d) ⊎ (has_block (node v d) b ≡ true)
 
 -- and the block of the inode under a name there
 abbrev pub LooksUnder : Geometry → Volume → (d : ℕ) → (name : List ℕ) → (b : ℕ) → Type 0
-LooksUnder g v d name b = LooksIn g v d b ⊎ ((i : ℕ) × (find name (slots_of (body v d)) ≡ Some i) × (b ≡ inode_block g i))
+LooksUnder g v d name b =
+    LooksIn g v d b ⊎ ((i : ℕ) × (find name (slots_of (body v d)) ≡ Some i) × (b ≡ inode_block g i))
 
 -- A way leads past the block: it is that of an inode to which its names lead, or one of a directory.
 pub data LeadsPast (g : Geometry) (v : Volume) (way : Way) (b : ℕ) : Type 0 where
   inode : (i : ℕ) → Leads v way i → b ≡ inode_block g i → LeadsPast g v way b
-  directory : (i : ℕ) (slots : List (Option Entry)) → Leads v way i → body v i ≡ Dir slots → has_block (node v i) b ≡ true → LeadsPast g v way b
+  directory : (i : ℕ) (slots : List (Option Entry)) → Leads v way i → body v i ≡ Dir slots
+      → has_block (node v i) b ≡ true → LeadsPast g v way b

@@ -14,29 +14,29 @@ use Rattle.mq_ledger.specs.KnownJournal.{KnownJournal}
 use Rattle.mq_ledger.specs.declared.tx.Tx.{Tx}
 use Rattle.mq_ledger.proofs.HistoryQueues.{FromQueue-of, at_end, at_own}
 use Rattle.mq_ledger.proofs.History.{at_numbered}
-use Rattle.mq_rules.specs.Faults.{AreCharged, IsBacked, of_kind, reports_of}
-use Rattle.mq_rules.specs.Groups.{GroupView}
-use Rattle.mq_rules.specs.Rule
-use Rattle.mq_rules.specs.Rule.{IsOk, IsSide}
-use Rattle.mq_rules.specs.Values.{Values}
-use Rattle.mq_rules.proofs.Faults.{charged_more}
-use Rattle.mq_side.specs.Counts.{KeepsCount}
-use Rattle.mq_side.specs.Drained.{AreGained, Drains, DrainsTo, Failures, IsWhole, kept_after, kept_with}
-use Rattle.mq_side.specs.Laws.{NamesTransaction}
-use Rattle.mq_side.specs.Side.{IsKept, IsKeptBy, IsQueueSide, NewestBegins, SideState, side_state}
-use Rattle.mq_side.specs.Staying.{Stays}
-use Rattle.mq_side.specs.Stored.{AreStored}
-use Rattle.mq_side.specs.Told.{IsTold, KeepsTold}
-use Rattle.mq_side.specs.declared.answers.Cause.{Cause}
-use Rattle.mq_side.specs.declared.answers.Cause.TheVariants.{Failed, FailedHome, Stopped}
-use Rattle.mq_side.specs.declared.answers.Cause.TheVariants as cause
-use Rattle.mq_side.specs.declared.answers.Why.{Why}
-use Rattle.mq_side.specs.declared.answers.Why.TheVariants.{Off, Status}
-use Rattle.mq_side.specs.declared.root.Root.{Root}
-use Rattle.mq_side.specs.declared.side.QueueSide.{QueueSide}
-use Rattle.mq_side.proofs.DrainedCompletes.{bound_then, gained_up}
-use Rattle.mq_side.proofs.DrainedReaching.{below_head, done_before}
-use Rattle.mq_side.proofs.Told.{one_more}
+use Rattle.mq_desk_laws.specs.Faults.{AreCharged, IsBacked, of_kind, reports_of}
+use Rattle.mq_desk_laws.specs.Groups.{GroupView}
+use Rattle.mq_desk_laws.specs.Rule
+use Rattle.mq_desk_laws.specs.Rule.{IsOk, IsSide}
+use Rattle.mq_desk_laws.specs.Values.{Values}
+use Rattle.mq_desk_laws.proofs.Faults.{charged_more}
+use Rattle.mq_queue_side.specs.Counts.{KeepsCount}
+use Rattle.mq_queue_side.specs.Drained.{AreGained, Drains, DrainsTo, Failures, IsWhole, kept_after, kept_with}
+use Rattle.mq_queue_side.specs.Laws.{NamesTransaction}
+use Rattle.mq_queue_side.specs.Side.{IsKept, IsKeptBy, IsQueueSide, NewestBegins, SideState, side_state}
+use Rattle.mq_queue_side.specs.Staying.{Stays}
+use Rattle.mq_queue_side.specs.Stored.{AreStored}
+use Rattle.mq_queue_side.specs.Told.{IsTold, KeepsTold}
+use Rattle.mq_queue_side.specs.declared.answers.Cause.{Cause}
+use Rattle.mq_queue_side.specs.declared.answers.Cause.TheVariants.{Failed, FailedHome, Stopped}
+use Rattle.mq_queue_side.specs.declared.answers.Cause.TheVariants as cause
+use Rattle.mq_queue_side.specs.declared.answers.Why.{Why}
+use Rattle.mq_queue_side.specs.declared.answers.Why.TheVariants.{Off, Status}
+use Rattle.mq_queue_side.specs.declared.root.Root.{Root}
+use Rattle.mq_queue_side.specs.declared.side.QueueSide.{QueueSide}
+use Rattle.mq_queue_side.proofs.DrainedCompletes.{bound_then, gained_up}
+use Rattle.mq_queue_side.proofs.DrainedReaching.{below_head, done_before}
+use Rattle.mq_queue_side.proofs.Told.{one_more}
 use Rattle.mq_turns.specs.declared.rule.Report.TheVariants as report
 use Rattle.mq_turns.specs.declared.turn.Turn.TheVariants.{Side}
 use Rattle.mq_journal.specs.Numbers

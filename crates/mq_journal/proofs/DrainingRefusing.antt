@@ -11,23 +11,23 @@ use Rattle.mq_ledger.specs.History.{IsAt, of_queue, writes}
 use Rattle.mq_ledger.specs.Items.{descriptor_blocks, end_of}
 use Rattle.mq_ledger.specs.declared.tx.Tx.{Tx}
 use Rattle.mq_pages.specs.declared.page.PageCell.{PageCell}
-use Rattle.mq_rules.specs.Faults.{IsBacked, of_kind}
-use Rattle.mq_rules.specs.Groups.{GroupView}
-use Rattle.mq_rules.specs.Rule
-use Rattle.mq_rules.specs.Rule.{IsOk, IsSide}
-use Rattle.mq_rules.specs.Values.{Values}
-use Rattle.mq_rules.proofs.RuleTelling.{side_claimed}
-use Rattle.mq_side.specs.Counts.{KeepsCount}
-use Rattle.mq_side.specs.Drained.{Drains, IsWhole}
-use Rattle.mq_side.specs.Side.{IsKept, NewestBegins, SideState, side_state}
-use Rattle.mq_side.specs.Staying.{Stays}
-use Rattle.mq_side.specs.Told.{IsTold, KeepsTold}
-use Rattle.mq_side.specs.declared.answers.Cause.{Cause}
-use Rattle.mq_side.specs.declared.answers.Cause.TheVariants as cause
-use Rattle.mq_side.specs.declared.answers.Why.{Why}
-use Rattle.mq_side.specs.declared.answers.Why.TheVariants as why
-use Rattle.mq_side.specs.declared.root.Root.{Root}
-use Rattle.mq_side.specs.declared.side.QueueSide.{QueueSide}
+use Rattle.mq_desk_laws.specs.Faults.{IsBacked, of_kind}
+use Rattle.mq_desk_laws.specs.Groups.{GroupView}
+use Rattle.mq_desk_laws.specs.Rule
+use Rattle.mq_desk_laws.specs.Rule.{IsOk, IsSide}
+use Rattle.mq_desk_laws.specs.Values.{Values}
+use Rattle.mq_desk_laws.proofs.RuleTelling.{side_claimed}
+use Rattle.mq_queue_side.specs.Counts.{KeepsCount}
+use Rattle.mq_queue_side.specs.Drained.{Drains, IsWhole}
+use Rattle.mq_queue_side.specs.Side.{IsKept, NewestBegins, SideState, side_state}
+use Rattle.mq_queue_side.specs.Staying.{Stays}
+use Rattle.mq_queue_side.specs.Told.{IsTold, KeepsTold}
+use Rattle.mq_queue_side.specs.declared.answers.Cause.{Cause}
+use Rattle.mq_queue_side.specs.declared.answers.Cause.TheVariants as cause
+use Rattle.mq_queue_side.specs.declared.answers.Why.{Why}
+use Rattle.mq_queue_side.specs.declared.answers.Why.TheVariants as why
+use Rattle.mq_queue_side.specs.declared.root.Root.{Root}
+use Rattle.mq_queue_side.specs.declared.side.QueueSide.{QueueSide}
 use Rattle.mq_turns.specs.Chairs.{giving, holding}
 use Rattle.mq_turns.specs.Desk.{IsTurn, Sees, refreshed, slot_of, turn_at}
 use Rattle.mq_turns.specs.Lists.{Each, without}
@@ -127,7 +127,7 @@ module _ {A B C D : Type 0} where
       ]
 
   -- the slot that was taken last is given back
-  taken_back : (about : ℕ → Bool) (L K : Known A B C D) (slot : ℕ) (l : List (ℕ × Known A B C D)) → ((k : ℕ) → about k ≡ true → k ≡ slot) → Each (λ h. h.0 < slot) l → without slot (refreshed about L ((slot, K) ∷ l)) ≡ l
+  pub taken_back : (about : ℕ → Bool) (L K : Known A B C D) (slot : ℕ) (l : List (ℕ × Known A B C D)) → ((k : ℕ) → about k ≡ true → k ≡ slot) → Each (λ h. h.0 < slot) l → without slot (refreshed about L ((slot, K) ∷ l)) ≡ l
   taken_back about L K slot l alone above =
       ap (λ b. cond b (without slot (refreshed about L l)) ((slot, cond (about slot) L K) ∷ without slot (refreshed about L l))) (eq-eqb slot slot refl)
       ∙ left_alone about L slot l alone above

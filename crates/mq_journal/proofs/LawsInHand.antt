@@ -7,22 +7,22 @@ use Rattle.mq_drive.specs.Steps.{PortFault}
 use Rattle.mq_drive.specs.declared.port.Port.{Ghosts}
 use Rattle.mq_ledger.specs.declared.tx.Tx.{Tx}
 use Rattle.mq_pages.specs.declared.page.PageCell.{PageCell}
-use Rattle.mq_rules.specs.Faults.{IsBacked}
-use Rattle.mq_rules.specs.Groups.{GroupView}
-use Rattle.mq_rules.specs.Rule
-use Rattle.mq_rules.specs.Rule.{IsOk, IsSide}
-use Rattle.mq_rules.specs.Values.{Values}
-use Rattle.mq_side.specs.Counts.{KeepsCount}
-use Rattle.mq_side.specs.Drained.{Drains, IsWhole}
-use Rattle.mq_side.specs.Side.{IsKept, IsKeptBy, side_state}
-use Rattle.mq_side.specs.Staying.{Stays}
-use Rattle.mq_side.specs.Told.{IsTold, KeepsTold}
-use Rattle.mq_side.specs.declared.answers.Cause.{Cause}
-use Rattle.mq_side.specs.declared.answers.Why.{Why}
-use Rattle.mq_side.specs.declared.answers.Why.TheVariants as why
-use Rattle.mq_side.specs.declared.root.Root.{Root}
-use Rattle.mq_side.specs.declared.side.QueueSide.{QueueSide}
-use Rattle.mq_side.proofs.SideSends.{none_kept}
+use Rattle.mq_desk_laws.specs.Faults.{IsBacked}
+use Rattle.mq_desk_laws.specs.Groups.{GroupView}
+use Rattle.mq_desk_laws.specs.Rule
+use Rattle.mq_desk_laws.specs.Rule.{IsOk, IsSide}
+use Rattle.mq_desk_laws.specs.Values.{Values}
+use Rattle.mq_queue_side.specs.Counts.{KeepsCount}
+use Rattle.mq_queue_side.specs.Drained.{Drains, IsWhole}
+use Rattle.mq_queue_side.specs.Side.{IsKept, IsKeptBy, side_state}
+use Rattle.mq_queue_side.specs.Staying.{Stays}
+use Rattle.mq_queue_side.specs.Told.{IsTold, KeepsTold}
+use Rattle.mq_queue_side.specs.declared.answers.Cause.{Cause}
+use Rattle.mq_queue_side.specs.declared.answers.Why.{Why}
+use Rattle.mq_queue_side.specs.declared.answers.Why.TheVariants as why
+use Rattle.mq_queue_side.specs.declared.root.Root.{Root}
+use Rattle.mq_queue_side.specs.declared.side.QueueSide.{QueueSide}
+use Rattle.mq_queue_side.proofs.SideSends.{none_kept}
 use Rattle.mq_turns.specs.Desk.{Sees, Stay, slot_of, turn_at}
 use Rattle.mq_turns.specs.Meaning.{Meaning, charged}
 use Rattle.mq_turns.specs.declared.rule.Report.TheVariants as report

@@ -11,3 +11,4 @@ pub mod DrainingRefusing
 pub mod SweepingDrains
 pub mod LawsKeeping
 pub mod LawsInHand
+pub mod Settled

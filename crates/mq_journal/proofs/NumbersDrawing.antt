@@ -5,19 +5,20 @@ use Rattle.mq_blocks.specs.Drive.{PortState, staged_end}
 use Rattle.mq_drive.specs.Steps.{PortFault}
 use Rattle.mq_drive.specs.declared.port.Port.{Ghosts}
 use Rattle.mq_pages.specs.declared.page.PageCell.{PageCell}
-use Rattle.mq_rules.specs.Groups.{GroupView}
-use Rattle.mq_rules.specs.Rule.{May, touches}
-use Rattle.mq_rules.specs.Values.{Values}
-use Rattle.mq_side.specs.Commits.{NumberedCommit, commit_of_tx}
-use Rattle.mq_side.specs.declared.root.Root.{Root}
-use Rattle.mq_side.specs.declared.side.QueueSide.{QueueSide}
+use Rattle.mq_desk_laws.specs.Groups.{GroupView}
+use Rattle.mq_desk_laws.specs.Rule.{May, touches}
+use Rattle.mq_desk_laws.specs.Values.{Values}
+use Rattle.mq_queue_side.specs.Commits.{NumberedCommit, commit_of_tx}
+use Rattle.mq_queue_side.specs.declared.root.Root.{Root}
+use Rattle.mq_queue_side.specs.declared.side.QueueSide.{QueueSide}
 use Rattle.mq_turns.specs.Desk.{Covers, Follows, IsTurn, Sees, after_draw, refreshed, slot_of, turn_at}
 use Rattle.mq_turns.specs.Lists.{Each, times}
 use Rattle.mq_turns.specs.Marks.{mark_of}
 use Rattle.mq_turns.specs.Meaning.{Meaning, drawn, newest}
 use Rattle.mq_turns.specs.declared.rule.Known.{Known}
 use Rattle.mq_turns.specs.declared.turn.Turn.TheVariants.{Side}
-use Rattle.mq_turns.proofs.DeskSeen.{opening_seen, times_renewed}
+use Rattle.mq_turns.proofs.DeskSeen.{opening_seen}
+use Rattle.mq_turns.proofs.DeskTurns.{times_refreshed}
 use Rattle.mq_turns.proofs.DeskSlots.{turn_at_slot}
 use Rattle.mq_journal.specs.Numbers
 use Rattle.mq_journal.specs.Numbers.{Draws, HasNumbered, HoldsNumbered, HoldsSide, Marks, MayCome, MaySend, SameSession, Seat, Shared, Start}
@@ -38,7 +39,7 @@ module _ {P E : Type 0} {G : Ghosts P} (state : P → PortState) (faults : P →
   module _ (old mid : Seat P E G) (marks : Marks state faults group o q s old mid) where
     -- as much is held as before
     pub held_still : (k : ℕ) → times k mid.held ≡ times k old.held
-    held_still k = ap (times k) marks.held ∙ times_renewed μ marks.about marks.by k old.held
+    held_still k = ap (times k) marks.held ∙ times_refreshed marks.about marks.by k old.held
 
     pub covers : MayCome state faults group o q e old → Covers μ e mid
     covers come = record {
@@ -84,7 +85,7 @@ module _ {P E : Type 0} {G : Ghosts P} (state : P → PortState) (faults : P →
         drawn = ap (λ (z : Seat P E G). z.drawn) drew ∙ (λ i. (sym number i, e) ∷ marks.drawn i);
         side = record {
           turn = turn;
-          holds = subst (λ l. 0 < times (slot_of o (Side q)) l) (sym held_is) (let same = times_renewed μ touched (drawn e K) (slot_of o (Side q)) old.held in omega arith);
+          holds = subst (λ l. 0 < times (slot_of o (Side q)) l) (sym held_is) (let same = times_refreshed touched (drawn e K) (slot_of o (Side q)) old.held in omega arith);
           has = subst (Each (λ h. h.0 ≡ slot_of o (Side q) → HasNumbered state faults group q h.1 s' n)) (sym held_is) (renewed_has (λ M. HasNumbered state faults group q M s' n) touched (drawn e K) (slot_of o (Side q)) old.held mine has);
         };
         sends = sends;

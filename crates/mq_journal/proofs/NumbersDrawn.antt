@@ -4,7 +4,9 @@ use Rattle.std.specs.Prelude.{None}
 use Rattle.std.proofs.lemmas.Bool.{eq-eqb, lt-ltb, le-ltb}
 use Rattle.std.proofs.lemmas.List.{map-append, reverse-append}
 use lib.ListN.{length-map}
-use Rattle.mq_blocks.specs.Drive.{PortState, counted, staged_end, usable_depth}
+use Rattle.mq_blocks.specs.Descriptor.{further_for, journal_form}
+use Rattle.mq_blocks.specs.Drive.{PortState, counted, staged_end}
+use Rattle.mq_blocks.specs.Limits.{usable_depth}
 use Rattle.mq_blocks.specs.Geometry.{area_of}
 use Rattle.mq_blocks.specs.Journal.{number_limit}
 use Rattle.mq_blocks.specs.declared.geometry.Geometry.{Geometry}
@@ -17,23 +19,23 @@ use Rattle.mq_ledger.specs.declared.tx.Tx.{Tx}
 use Rattle.mq_ledger.proofs.Items.{of_queue-own}
 use Rattle.mq_core.specs.Events.{HasRoom}
 use Rattle.mq_revoke.specs.Guard.{placed_of}
-use Rattle.mq_rules.specs.Faults.{AreCharged, reports_of}
-use Rattle.mq_rules.specs.Groups.{GroupView}
-use Rattle.mq_rules.specs.Rule
-use Rattle.mq_rules.specs.Rule.{IsOk, IsSide, May}
-use Rattle.mq_rules.specs.Values.{Part, Values}
-use Rattle.mq_rules.proofs.FaultsAdded.{unclaimed}
-use Rattle.mq_side.specs.Commits.{NumberedCommit, commit_of, commit_of_tx, descriptor_size, size_of}
-use Rattle.mq_side.specs.Sent.{AreInZone}
-use Rattle.mq_side.specs.Side.{IsQueueSide, IsRung, SideState, side_state}
-use Rattle.mq_side.specs.Stored.{AreStored, FitIs, IsBounded, Row, next_in, numbered_in, rows_for, rows_of, slots_in}
-use Rattle.mq_side.specs.declared.answers.Fit.TheVariants.{Yes}
-use Rattle.mq_side.specs.declared.drawn.Drawn.{Drawn}
-use Rattle.mq_side.specs.declared.root.Root.{Root}
-use Rattle.mq_side.specs.declared.side.QueueSide.{QueueSide}
-use Rattle.mq_side.proofs.CountsSides.{drawn_counts}
-use Rattle.mq_side.proofs.SideDraws.{drawn as side_drawn, fits_ring, fitting, next_is}
-use Rattle.mq_side.proofs.Stored.{numbering, stored_more}
+use Rattle.mq_desk_laws.specs.Faults.{AreCharged, reports_of}
+use Rattle.mq_desk_laws.specs.Groups.{GroupView}
+use Rattle.mq_desk_laws.specs.Rule
+use Rattle.mq_desk_laws.specs.Rule.{IsOk, IsSide, May}
+use Rattle.mq_desk_laws.specs.Values.{Part, Values}
+use Rattle.mq_desk_laws.proofs.FaultsAdded.{unclaimed}
+use Rattle.mq_queue_side.specs.Commits.{NumberedCommit, commit_of, commit_of_tx, descriptor_size, size_of}
+use Rattle.mq_queue_side.specs.Sent.{AreInZone}
+use Rattle.mq_queue_side.specs.Side.{IsQueueSide, IsRung, SideState, side_state}
+use Rattle.mq_queue_side.specs.Stored.{AreStored, FitIs, IsBounded, Row, next_in, numbered_in, rows_for, rows_of, slots_in}
+use Rattle.mq_queue_side.specs.declared.answers.Fit.TheVariants.{Yes}
+use Rattle.mq_queue_side.specs.declared.drawn.Drawn.{Drawn}
+use Rattle.mq_queue_side.specs.declared.root.Root.{Root}
+use Rattle.mq_queue_side.specs.declared.side.QueueSide.{QueueSide}
+use Rattle.mq_queue_side.proofs.CountsSides.{drawn_counts}
+use Rattle.mq_queue_side.proofs.SideDraws.{drawn as side_drawn, fits_ring, fitting, next_is}
+use Rattle.mq_queue_side.proofs.Stored.{numbering, stored_more}
 use Rattle.mq_turns.specs.Meaning.{drawn, newest}
 use Rattle.mq_turns.specs.declared.turn.Turn.TheVariants.{Side}
 use Rattle.mq_journal.specs.Numbers
@@ -59,7 +61,7 @@ module _ {P E : Type 0} {G : Ghosts P} (state : P → PortState) (faults : P →
 
   module _ (e : E) (K : Shared P E G) (s : QueueSide P E G) (base number : ℕ) (n : NumberedCommit) (is : IsSide values group (group.tx e).queue K s) (none : s.kept ≡ None) (ok : IsOk values group K) (may : May values group e K)
       (low : base ≤ K.word) (fits : FitIs (area_of s.pmr.geometry) base (rows_of s.stored.items) (state s.pmr.port) (placed_of (group.tx e)) Yes) (bounds : IsBounded (rows_of s.stored.items) (state s.pmr.port) (placed_of (group.tx e)))
-      (number_is : number ≡ suc (newest K)) (numbered : n ≡ numbered_in s.pmr.queue number (rows_of s.stored.items) (commit_of_tx (group.tx e))) where
+      (number_is : number ≡ suc (newest K)) (numbered : n ≡ numbered_in journal_form s.pmr.queue number (rows_of s.stored.items) (commit_of_tx (group.tx e))) where
     abbrev q : ℕ
     q = (group.tx e).queue
 
@@ -99,13 +101,17 @@ module _ {P E : Type 0} {G : Ghosts P} (state : P → PortState) (faults : P →
     direct : length (placed_of t).direct ≡ length t.direct
     direct = length-map t.direct (λ (w : ℕ × List ℕ). w.0)
 
+    -- its descriptor has as many blocks as that of what is placed so
+    further : further_for (length (placed_of t).logged + length t.revoked) ≡ further_for (length t.logged + length t.revoked)
+    further = ap (λ (n : ℕ). further_for (n + length t.revoked)) logged
+
     fits_there : FitIs k.geometry.area base (rows_for us) ss.port (placed_of t) Yes
     fits_there = subst (λ (z : Geometry × List Row). FitIs (area_of z.0) base z.1 ss.port (placed_of t) Yes) (λ i. (geometry_is i, rows i)) fits
 
     room : HasRoom k.geometry (k.from t.queue) k.word us t ss.port
     room = fitting k t us ss base qs none rung low fits_there
-        (let a = bounds.places in let b : next_in (rows_of s.stored.items) ≡ next_in (rows_for us) = ap next_in rows in let c = next_is us in let d = logged in omega arith)
-        (let a = bounds.end in let b = logged in let c = direct in omega arith)
+        (let a = bounds.places in let b : next_in (rows_of s.stored.items) ≡ next_in (rows_for us) = ap next_in rows in let c = next_is us in let d = logged in let f = further in omega arith)
+        (let a = bounds.end in let b = logged in let c = direct in let f = further in omega arith)
 
     undone : k.done t k.history ≡ false
     undone = unclaimed (newest K) K.claims t.queue t.number ok.claims (omega arith)
@@ -150,11 +156,11 @@ module _ {P E : Type 0} {G : Ghosts P} (state : P → PortState) (faults : P →
       bound = r.bound;
     }
 
-    commit_is : n ≡ commit_of t us
-    commit_is = numbered ∙ ((λ i. numbered_in (is.says.is.queue i) (number_next i) (rows i) (commit_of_tx (group.tx e))) ∙ numbering t us)
+    commit_is : n ≡ commit_of journal_form t us
+    commit_is = numbered ∙ ((λ i. numbered_in journal_form (is.says.is.queue i) (number_next i) (rows i) (commit_of_tx (group.tx e))) ∙ numbering journal_form t us)
 
     -- whatever room it has for more
-    module _ (u : QueueSide P E G) (pmr : u.pmr ≡ s.pmr) (done : u.done ≡ s.done) (kept : u.kept ≡ s.kept) (stored : u.stored.items ≡ s.stored.items ++ record { number = number; next = next_in (rows_of s.stored.items) + (length (group.tx e).logged + descriptor_size); entry = e } ∷ []) where
+    module _ (u : QueueSide P E G) (pmr : u.pmr ≡ s.pmr) (done : u.done ≡ s.done) (kept : u.kept ≡ s.kept) (stored : u.stored.items ≡ s.stored.items ++ record { number = number; next = next_in (rows_of s.stored.items) + (length (group.tx e).logged + descriptor_size (length (group.tx e).logged) (length (group.tx e).revoked)); entry = e } ∷ []) where
       same : ss ≡ side_state state faults u
       same = λ i. record {
         geometry = (sym pmr i).geometry;
@@ -178,7 +184,7 @@ module _ {P E : Type 0} {G : Ghosts P} (state : P → PortState) (faults : P →
 
       stored_now : AreStored (t ∷ us) u.stored.items
       stored_now =
-          let with : ℕ → List (Drawn E) = λ m. s.stored.items ++ record { number = m; next = next_in (rows_of s.stored.items) + (length (group.tx e).logged + descriptor_size); entry = e } ∷ [] in
+          let with : ℕ → List (Drawn E) = λ m. s.stored.items ++ record { number = m; next = next_in (rows_of s.stored.items) + (length (group.tx e).logged + descriptor_size (length (group.tx e).logged) (length (group.tx e).revoked)); entry = e } ∷ [] in
           subst (λ l. AreStored (t ∷ us) l) (ap with (sym number_next) ∙ sym stored) (stored_more t us s.stored.items e is.says.stored)
 
       pub has_numbered : HasNumbered state faults group q L u n
@@ -198,7 +204,7 @@ module _ {P E : Type 0} {G : Ghosts P} (state : P → PortState) (faults : P →
       pub may_send : MaySend state faults group u n
       may_send =
           let plan = placed_of (group.tx e) in
-          let size : size_of n ≡ slots_in plan = ap size_of numbered ∙ (let a = logged in let b = direct in let z : length (group.tx e).logged + length (group.tx e).direct + descriptor_size ≡ slots_in plan = omega arith in z) in
+          let size : size_of n ≡ slots_in plan = ap size_of numbered ∙ (let a = logged in let b = direct in let f = further in let z : length (group.tx e).logged + length (group.tx e).direct + descriptor_size (length (group.tx e).logged) (length (group.tx e).revoked) ≡ slots_in plan = omega arith in z) in
           record {
             number = let a : n.number ≡ number = ap (λ (x : NumberedCommit). x.number) numbered in omega arith;
             room = subst (λ (p : PortState). size_of n ≤ usable_depth - (staged_end p - p.head)) port_same (let r = fits_ring (area_of s.pmr.geometry) base (rows_of s.stored.items) (state s.pmr.port) plan fits in omega arith);

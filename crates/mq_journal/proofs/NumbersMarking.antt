@@ -10,15 +10,15 @@ use Rattle.mq_ledger.specs.declared.tx.Tx.{Tx}
 use Rattle.mq_ledger.proofs.Items.{of_queue-own, of_queue-other}
 use Rattle.mq_ledger.proofs.HistoryQueues.{at_end, at_own}
 use Rattle.mq_pages.specs.declared.page.PageCell.{PageCell}
-use Rattle.mq_rules.specs.Groups.{GroupView}
-use Rattle.mq_rules.specs.Rule
-use Rattle.mq_rules.specs.Rule.{IsSide}
-use Rattle.mq_rules.specs.Values.{Values}
-use Rattle.mq_rules.proofs.RuleTelling.{ok_claimed, side_claimed}
-use Rattle.mq_rules.proofs.Meaning.{laws}
-use Rattle.mq_side.specs.declared.root.Root as side
-use Rattle.mq_side.specs.declared.side.QueueSide.{QueueSide}
-use Rattle.mq_side.proofs.SideSends.{none_kept}
+use Rattle.mq_desk_laws.specs.Groups.{GroupView}
+use Rattle.mq_desk_laws.specs.Rule
+use Rattle.mq_desk_laws.specs.Rule.{IsSide}
+use Rattle.mq_desk_laws.specs.Values.{Values}
+use Rattle.mq_desk_laws.proofs.RuleTelling.{ok_claimed, side_claimed}
+use Rattle.mq_desk_laws.proofs.Meaning.{laws}
+use Rattle.mq_queue_side.specs.declared.root.Root as side
+use Rattle.mq_queue_side.specs.declared.side.QueueSide.{QueueSide}
+use Rattle.mq_queue_side.proofs.SideSends.{none_kept}
 use Rattle.mq_turns.specs.Desk.{Sees, Stay, after_look, refreshed, slot_of, turn_at}
 use Rattle.mq_turns.specs.Lists.{Each, times, without}
 use Rattle.mq_turns.specs.Marks.{Marked, claim_of, is_claimed, mark_of, passed, queues_of, shown}
@@ -85,7 +85,7 @@ module _ {A B C D : Type 0} where
     | inr few ↦ (rw few (omega arith), refl, refl, refl, refl)
   ]
 
-  read_shown : (queues q n : ℕ) (r : Reading A B C D) → (r.done ≤ (shown queues q n r).done) × ((shown queues q n r).base ≡ r.base) × ((shown queues q n r).pages ≡ r.pages) × ((shown queues q n r).answers ≡ r.answers) × ((shown queues q n r).charged ≡ r.charged)
+  pub read_shown : (queues q n : ℕ) (r : Reading A B C D) → (r.done ≤ (shown queues q n r).done) × ((shown queues q n r).base ≡ r.base) × ((shown queues q n r).pages ≡ r.pages) × ((shown queues q n r).answers ≡ r.answers) × ((shown queues q n r).charged ≡ r.charged)
   read_shown queues q n r = elim (cases_Bool (eqb q 0)) [
     | inl first ↦ rw first (read_passed queues 1 n r)
     | inr later ↦ elim (cases_Bool (eqb q r.swept)) [

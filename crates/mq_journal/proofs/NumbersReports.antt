@@ -4,15 +4,15 @@ use Rattle.mq_blocks.specs.Drive.{PortState}
 use Rattle.mq_drive.specs.Steps.{PortFault}
 use Rattle.mq_drive.specs.declared.port.Port.{Ghosts}
 use Rattle.mq_ledger.specs.declared.tx.Tx.{Tx}
-use Rattle.mq_rules.specs.Faults.{AreCharged, IsBacked, reports_of}
-use Rattle.mq_rules.specs.Groups.{GroupView}
-use Rattle.mq_rules.specs.Rule
-use Rattle.mq_rules.specs.Rule.{IsSide}
-use Rattle.mq_rules.specs.Values.{Part, Values}
-use Rattle.mq_rules.proofs.RuleTelling.{side_charged}
-use Rattle.mq_side.specs.Side.{SideState, side_state}
-use Rattle.mq_side.specs.declared.root.Root.{Root}
-use Rattle.mq_side.specs.declared.side.QueueSide.{QueueSide}
+use Rattle.mq_desk_laws.specs.Faults.{AreCharged, IsBacked, reports_of}
+use Rattle.mq_desk_laws.specs.Groups.{GroupView}
+use Rattle.mq_desk_laws.specs.Rule
+use Rattle.mq_desk_laws.specs.Rule.{IsSide}
+use Rattle.mq_desk_laws.specs.Values.{Part, Values}
+use Rattle.mq_desk_laws.proofs.RuleTelling.{side_charged}
+use Rattle.mq_queue_side.specs.Side.{SideState, side_state}
+use Rattle.mq_queue_side.specs.declared.root.Root.{Root}
+use Rattle.mq_queue_side.specs.declared.side.QueueSide.{QueueSide}
 use Rattle.mq_turns.specs.Lists.{Each}
 use Rattle.mq_turns.specs.Meaning.{charged}
 use Rattle.mq_turns.specs.declared.rule.Report.{Report}

@@ -13,23 +13,23 @@ use Rattle.mq_ledger.specs.Items.{end_of}
 use Rattle.mq_ledger.specs.KnownJournal.{KnownJournal}
 use Rattle.mq_ledger.specs.declared.tx.Tx.{Tx}
 use Rattle.mq_pmr.specs.Runs.{Items}
-use Rattle.mq_rules.specs.Faults.{AreCharged, IsBacked, of_kind, reports_of}
-use Rattle.mq_rules.specs.Groups.{GroupView}
-use Rattle.mq_rules.specs.Rule
-use Rattle.mq_rules.specs.Rule.{IsOk, IsSide}
-use Rattle.mq_rules.specs.Values.{Values}
-use Rattle.mq_rules.proofs.Faults.{charged_more}
-use Rattle.mq_side.specs.Commits.{NumberedCommit}
-use Rattle.mq_side.specs.Counts.{SendCounts}
-use Rattle.mq_side.specs.Sent.{IsCutAt, RingsAll, Sends, after_send}
-use Rattle.mq_side.specs.Side.{IsQueueSide, SideState, side_state}
-use Rattle.mq_side.specs.Stored.{AreStored}
-use Rattle.mq_side.specs.Told.{KeepsTold}
-use Rattle.mq_side.specs.declared.answers.Why.TheVariants.{Off}
-use Rattle.mq_side.specs.declared.root.Root.{Root}
-use Rattle.mq_side.specs.declared.side.QueueSide.{QueueSide}
-use Rattle.mq_side.proofs.DrainedCompletes.{bound_then, gains_rises}
-use Rattle.mq_side.proofs.Told.{one_more}
+use Rattle.mq_desk_laws.specs.Faults.{AreCharged, IsBacked, of_kind, reports_of}
+use Rattle.mq_desk_laws.specs.Groups.{GroupView}
+use Rattle.mq_desk_laws.specs.Rule
+use Rattle.mq_desk_laws.specs.Rule.{IsOk, IsSide}
+use Rattle.mq_desk_laws.specs.Values.{Values}
+use Rattle.mq_desk_laws.proofs.Faults.{charged_more}
+use Rattle.mq_queue_side.specs.Commits.{NumberedCommit}
+use Rattle.mq_queue_side.specs.Counts.{SendCounts}
+use Rattle.mq_queue_side.specs.Sent.{IsCutAt, RingsAll, Sends, after_send}
+use Rattle.mq_queue_side.specs.Side.{IsQueueSide, SideState, side_state}
+use Rattle.mq_queue_side.specs.Stored.{AreStored}
+use Rattle.mq_queue_side.specs.Told.{KeepsTold}
+use Rattle.mq_queue_side.specs.declared.answers.Why.TheVariants.{Off}
+use Rattle.mq_queue_side.specs.declared.root.Root.{Root}
+use Rattle.mq_queue_side.specs.declared.side.QueueSide.{QueueSide}
+use Rattle.mq_queue_side.proofs.DrainedCompletes.{bound_then, gains_rises}
+use Rattle.mq_queue_side.proofs.Told.{one_more}
 use Rattle.mq_turns.specs.declared.rule.Report.{Report}
 use Rattle.mq_turns.specs.declared.rule.Report.TheVariants as report
 use Rattle.mq_turns.specs.declared.turn.Turn.TheVariants.{Side}

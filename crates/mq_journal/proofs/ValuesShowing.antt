@@ -4,10 +4,10 @@ use Rattle.std.proofs.lemmas.Bool.{eq-eqb}
 use Rattle.mq_blocks.specs.declared.command.Command.{Command}
 use Rattle.mq_ledger.specs.History.{IsAt}
 use Rattle.mq_ledger.specs.declared.tx.Tx.{Tx}
-use Rattle.mq_rules.specs.Faults.{reports_of}
-use Rattle.mq_side.specs.Drained.{numbers_of}
-use Rattle.mq_side.specs.Side.{HasTx, IsBelow}
-use Rattle.mq_side.specs.declared.answers.Why.{Why}
+use Rattle.mq_desk_laws.specs.Faults.{reports_of}
+use Rattle.mq_queue_side.specs.Drained.{numbers_of}
+use Rattle.mq_queue_side.specs.Side.{HasTx, IsBelow}
+use Rattle.mq_queue_side.specs.declared.answers.Why.{Why}
 use Rattle.mq_turns.specs.Lists.{Each}
 use Rattle.mq_turns.specs.declared.rule.Charge.{Charge}
 use Rattle.mq_turns.specs.declared.rule.Report.{Report}

@@ -3,10 +3,10 @@ use Rattle.std.proofs.Common.{ℕ, List, refl}
 use Rattle.mq_blocks.specs.Drive.{PortState}
 use Rattle.mq_drive.specs.Steps.{PortFault}
 use Rattle.mq_drive.specs.declared.port.Port.{Ghosts}
-use Rattle.mq_rules.specs.Groups.{GroupView}
-use Rattle.mq_rules.specs.Rule.{DeskState, IsSide, core_of, own_of}
-use Rattle.mq_side.specs.Side.{IsQueueSide, side_state}
-use Rattle.mq_side.specs.declared.side.QueueSide.{QueueSide}
+use Rattle.mq_desk_laws.specs.Groups.{GroupView}
+use Rattle.mq_desk_laws.specs.Rule.{DeskState, IsSide, core_of, own_of}
+use Rattle.mq_queue_side.specs.Side.{IsQueueSide, side_state}
+use Rattle.mq_queue_side.specs.declared.side.QueueSide.{QueueSide}
 use Rattle.mq_journal.specs.Values.{side_values}
 
 module _ {P E : Type 0} {G : Ghosts P} (state : P → PortState) (faults : P → List PortFault) (group : GroupView E) where

@@ -3,15 +3,15 @@ use Rattle.std.specs.Prelude.{◌≡◌, ◌<◌, ◌≤◌, ◌-◌, ◌^◌, �
 use Rattle.mq_blocks.specs.Drive.{PortState}
 use Rattle.mq_drive.specs.Steps.{PortFault}
 use Rattle.mq_drive.specs.declared.port.Port.{Ghosts}
-use Rattle.mq_rules.specs.Groups.{GroupView}
-use Rattle.mq_rules.specs.Rule.{IsSide}
-use Rattle.mq_side.specs.Drained.{DrainCause, Drains}
-use Rattle.mq_side.specs.Side.{side_state}
-use Rattle.mq_side.specs.declared.answers.Cause.{Cause}
-use Rattle.mq_side.specs.declared.answers.Cause.TheVariants as cause
-use Rattle.mq_side.specs.declared.answers.Why.{Why}
-use Rattle.mq_side.specs.declared.answers.Why.TheVariants as why
-use Rattle.mq_side.specs.declared.side.QueueSide.{QueueSide}
+use Rattle.mq_desk_laws.specs.Groups.{GroupView}
+use Rattle.mq_desk_laws.specs.Rule.{IsSide}
+use Rattle.mq_queue_side.specs.Drained.{DrainCause, Drains}
+use Rattle.mq_queue_side.specs.Side.{side_state}
+use Rattle.mq_queue_side.specs.declared.answers.Cause.{Cause}
+use Rattle.mq_queue_side.specs.declared.answers.Cause.TheVariants as cause
+use Rattle.mq_queue_side.specs.declared.answers.Why.{Why}
+use Rattle.mq_queue_side.specs.declared.answers.Why.TheVariants as why
+use Rattle.mq_queue_side.specs.declared.side.QueueSide.{QueueSide}
 use Rattle.mq_turns.specs.Chairs.{giving}
 use Rattle.mq_turns.specs.Desk.{Sees, slot_of}
 use Rattle.mq_turns.specs.Marks.{claim_of, queues_of, shown}
@@ -67,9 +67,14 @@ module _ {P E : Type 0} {G : Ghosts P} where
   -- The refusal was reported of the queue's port. Nothing else of what it knows has changed.
   abbrev pub RefusesDrain : ℕ → Cause → Seat P E G → Seat P E G → Type 0
   RefusesDrain q c old new =
-      new ≡ record old { hand = 0; reading = record old.reading { charged = reported q (report_of c) ∷ old.reading.charged } }
+      new
+      ≡ record old {
+        hand = 0;
+        reading = record old.reading { charged = reported q (report_of c) ∷ old.reading.charged };
+      }
 
-module _ {P E : Type 0} {G : Ghosts P} (state : P → PortState) (faults : P → List PortFault) (group : GroupView E) where
+module _ {P E : Type 0} {G : Ghosts P} (state : P → PortState) (faults : P → List PortFault)
+    (group : GroupView E) where
   -- ---- one side in hand
 
   -- Whatever is known: with the claim that the queue's numbers below this one are done, the side is what
@@ -87,7 +92,8 @@ module _ {P E : Type 0} {G : Ghosts P} (state : P → PortState) (faults : P →
 
   -- A drain of this side came to this, and it was answered so: where nothing is answered, the mark says how
   -- far all is done.
-  pub record IsAnswered (o : Start P E G) (at : ℕ) (s : QueueSide P E G) (old new : Seat P E G) (answer : Result (Unit {0}) Cause) : Type 0 where
+  pub record IsAnswered (o : Start P E G) (at : ℕ) (s : QueueSide P E G) (old new : Seat P E G)
+      (answer : Result (Unit {0}) Cause) : Type 0 where
     pub result : Result ℕ Cause
     pub after : QueueSide P E G
     pub drains : Drains (side_state state faults s) result (side_state state faults after)
@@ -104,7 +110,11 @@ module _ {P E : Type 0} {G : Ghosts P} (state : P → PortState) (faults : P →
     pub known : Shared P E G
     pub sees : Sees (Numbers.machine state faults group) old known
     pub reach : at ≤ min (mark - 1) (newest known)
-    pub is : new ≡ record old { hand = 0; reading = shown (queues_of old.opening) q (min (mark - 1) (newest known)) old.reading }
+    pub is : new
+        ≡ record old {
+          hand = 0;
+          reading = shown (queues_of old.opening) q (min (mark - 1) (newest known)) old.reading;
+        }
 
   -- The side, as it was taken by what was known then, was drained, and it was answered so.
   pub record WasDrained (q at : ℕ) (old new : Seat P E G) (answer : Result (Unit {0}) Cause) : Type 0 where

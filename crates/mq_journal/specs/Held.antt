@@ -3,12 +3,12 @@ use Rattle.std.specs.Prelude.{◌≡◌, ℕ, List, Result, Ok, Err}
 use Rattle.mq_blocks.specs.Drive.{PortState}
 use Rattle.mq_drive.specs.Steps.{PortFault}
 use Rattle.mq_drive.specs.declared.port.Port.{Ghosts}
-use Rattle.mq_rules.specs.Groups.{GroupView}
-use Rattle.mq_rules.specs.Rule.{IsSide}
-use Rattle.mq_side.specs.Drained.{DrainCause, Drains}
-use Rattle.mq_side.specs.Side.{side_state}
-use Rattle.mq_side.specs.declared.answers.Cause.{Cause}
-use Rattle.mq_side.specs.declared.side.QueueSide.{QueueSide}
+use Rattle.mq_desk_laws.specs.Groups.{GroupView}
+use Rattle.mq_desk_laws.specs.Rule.{IsSide}
+use Rattle.mq_queue_side.specs.Drained.{DrainCause, Drains}
+use Rattle.mq_queue_side.specs.Side.{side_state}
+use Rattle.mq_queue_side.specs.declared.answers.Cause.{Cause}
+use Rattle.mq_queue_side.specs.declared.side.QueueSide.{QueueSide}
 use Rattle.mq_turns.specs.Chairs.{holding}
 use Rattle.mq_turns.specs.Desk.{Sees, slot_of}
 use Rattle.mq_turns.specs.declared.turn.Turn.TheVariants.{Side}
@@ -26,7 +26,8 @@ abbrev pub drain_answer : Result ℕ Cause → Result (Unit {0}) Cause
 drain_answer (Ok done) = Ok tt
 drain_answer (Err cause) = Err cause
 
-module _ {P E : Type 0} {G : Ghosts P} (state : P → PortState) (faults : P → List PortFault) (group : GroupView E) where
+module _ {P E : Type 0} {G : Ghosts P} (state : P → PortState) (faults : P → List PortFault)
+    (group : GroupView E) where
   -- The session has taken the side's turn: by what was known then, the side is what the rule says. Nothing
   -- else of the session changes.
   pub record TakesSide (o : Start P E G) (q : ℕ) (s : QueueSide P E G) (old new : Seat P E G) : Type 0 where

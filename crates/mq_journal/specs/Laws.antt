@@ -3,12 +3,12 @@ use Rattle.std.specs.Prelude.{◌≡◌, ◌≢◌, ℕ, List, [], ◌∷◌, So
 use Rattle.mq_blocks.specs.Drive.{PortState}
 use Rattle.mq_drive.specs.Steps.{PortFault}
 use Rattle.mq_drive.specs.declared.port.Port.{Ghosts}
-use Rattle.mq_rules.specs.Groups.{GroupView}
-use Rattle.mq_rules.specs.Rule.{IsSide}
-use Rattle.mq_side.specs.Commits.{NumberedCommit}
-use Rattle.mq_side.specs.declared.answers.Cause.TheVariants.{Stopped}
-use Rattle.mq_side.specs.declared.answers.Why.{Why}
-use Rattle.mq_side.specs.declared.side.QueueSide.{QueueSide}
+use Rattle.mq_desk_laws.specs.Groups.{GroupView}
+use Rattle.mq_desk_laws.specs.Rule.{IsSide}
+use Rattle.mq_queue_side.specs.Commits.{NumberedCommit}
+use Rattle.mq_queue_side.specs.declared.answers.Cause.TheVariants.{Stopped}
+use Rattle.mq_queue_side.specs.declared.answers.Why.{Why}
+use Rattle.mq_queue_side.specs.declared.side.QueueSide.{QueueSide}
 use Rattle.mq_turns.specs.Chairs.{giving, holding}
 use Rattle.mq_turns.specs.Desk.{Sees, slot_of}
 use Rattle.mq_turns.specs.Lists.{Each, without}
@@ -30,7 +30,8 @@ module _ {A : Type 0} where
   without_each [] held = held
   without_each (k ∷ ks) held = without k (without_each ks held)
 
-module _ {P E : Type 0} {G : Ghosts P} (state : P → PortState) (faults : P → List PortFault) (group : GroupView E) (s : QueueSide P E G) where
+module _ {P E : Type 0} {G : Ghosts P} (state : P → PortState) (faults : P → List PortFault)
+    (group : GroupView E) (s : QueueSide P E G) where
   -- it holds the side while it takes the turn of another slot
   abbrev pub SidesStayAtTake : Type 0
   SidesStayAtTake =

@@ -5,3 +5,4 @@ pub mod Draining
 pub mod Sweeping
 pub mod Held
 pub mod Laws
+pub mod Settling

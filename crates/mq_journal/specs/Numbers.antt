@@ -1,23 +1,25 @@
 -- The draw of a number for a group: what it asks of a session, and what it leaves.
 use Rattle.std.specs.Prelude.{◌≡◌, ◌<◌, ◌≤◌, ◌^◌, ◌+◌, ◌-◌, ℕ, suc, Bool, true, List, ◌∷◌, Some}
-use Rattle.mq_blocks.specs.Drive.{PortState, staged_end, usable_depth}
+use Rattle.mq_blocks.specs.Descriptor.{journal_form}
+use Rattle.mq_blocks.specs.Drive.{PortState, staged_end}
+use Rattle.mq_blocks.specs.Limits.{usable_depth}
 use Rattle.mq_blocks.specs.Geometry.{area_of}
 use Rattle.mq_blocks.specs.Journal.{number_limit}
 use Rattle.mq_drive.specs.Steps.{PortFault, Gains, PowerOff}
 use Rattle.mq_drive.specs.declared.port.Port.{Ghosts}
 use Rattle.mq_pages.specs.declared.page.PageCell.{PageCell}
 use Rattle.mq_revoke.specs.Placed.{Placed}
-use Rattle.mq_rules.specs.Groups.{GroupView}
-use Rattle.mq_rules.specs.Rule.{IsSide, May, touches}
-use Rattle.mq_rules.specs.Values.{Part, Values}
-use Rattle.mq_side.specs.Commits.{NumberedCommit, commit_of_tx, items_of, size_of}
-use Rattle.mq_side.specs.Sent.{AreInZone, IsCutAt, IsReadyFrom}
-use Rattle.mq_side.specs.Side.{side_state}
-use Rattle.mq_side.specs.Stored.{AreStored, FitIs, IsBounded, rows_of}
-use Rattle.mq_side.specs.declared.answers.Fit.TheVariants.{Yes}
-use Rattle.mq_side.specs.declared.answers.Why.TheVariants.{Off}
-use Rattle.mq_side.specs.declared.root.Root.{Root}
-use Rattle.mq_side.specs.declared.side.QueueSide.{QueueSide}
+use Rattle.mq_desk_laws.specs.Groups.{GroupView}
+use Rattle.mq_desk_laws.specs.Rule.{IsSide, May, touches}
+use Rattle.mq_desk_laws.specs.Values.{Part, Values}
+use Rattle.mq_queue_side.specs.Commits.{NumberedCommit, commit_of_tx, items_of, size_of}
+use Rattle.mq_queue_side.specs.Sent.{AreInZone, IsCutAt, IsReadyFrom}
+use Rattle.mq_queue_side.specs.Side.{side_state}
+use Rattle.mq_queue_side.specs.Stored.{AreStored, FitIs, IsBounded, rows_of}
+use Rattle.mq_queue_side.specs.declared.answers.Fit.TheVariants.{Yes}
+use Rattle.mq_queue_side.specs.declared.answers.Why.TheVariants.{Off}
+use Rattle.mq_queue_side.specs.declared.root.Root.{Root}
+use Rattle.mq_queue_side.specs.declared.side.QueueSide.{QueueSide}
 use Rattle.mq_turns.specs.Chairs.{giving}
 use Rattle.mq_turns.specs.Desk.{IsTurn, Sees, refreshed, slot_of, turn_at}
 use Rattle.mq_turns.specs.Lists.{Each, times}
@@ -50,7 +52,8 @@ Seat P E G = ChairView PageCell (QueueSide P E G) (Root P G) E
 abbrev pub reported : ℕ → Report → Charge
 reported q r = record { port = Side q; report = r }
 
-module _ {P E : Type 0} {G : Ghosts P} (state : P → PortState) (faults : P → List PortFault) (group : GroupView E) where
+module _ {P E : Type 0} {G : Ghosts P} (state : P → PortState) (faults : P → List PortFault)
+    (group : GroupView E) where
   abbrev pub values : Values (QueueSide P E G) (Root P G) E
   values = side_values state faults
 
@@ -65,7 +68,7 @@ module _ {P E : Type 0} {G : Ghosts P} (state : P → PortState) (faults : P →
     pub is : IsRecord p (side_state state faults s)
     pub stored : AreStored p.txs s.stored.items
     pub shows : ShowsAll p.start p.txs (side_state state faults s) p.reports
-    pub ready : IsReadyFrom p.start p.txs (side_state state faults s) n
+    pub ready : IsReadyFrom journal_form p.start p.txs (side_state state faults s) n
 
   abbrev pub drawn_values : NumberedCommit → Values (QueueSide P E G) (Root P G) E
   drawn_values n = record {
@@ -105,7 +108,8 @@ module _ {P E : Type 0} {G : Ghosts P} (state : P → PortState) (faults : P →
     pub is : Each (λ h. h.0 ≡ slot_of o (Side q) → IsSide values group q h.1 s) v.held
 
   -- It holds the side of the queue, on which this was drawn.
-  pub record HoldsNumbered (o : Start P E G) (q : ℕ) (s : QueueSide P E G) (n : NumberedCommit) (v : Seat P E G) : Type 0 where
+  pub record HoldsNumbered (o : Start P E G) (q : ℕ) (s : QueueSide P E G) (n : NumberedCommit)
+      (v : Seat P E G) : Type 0 where
     pub turn : IsTurn o (Side q)
     pub holds : 0 < times (slot_of o (Side q)) v.held
     pub has : Each (λ h. h.0 ≡ slot_of o (Side q) → HasNumbered q h.1 s n) v.held
@@ -120,7 +124,8 @@ module _ {P E : Type 0} {G : Ghosts P} (state : P → PortState) (faults : P →
 
   -- Whatever is known: the session holds all that the group changes, and it may be drawn.
   pub record MayCome (o : Start P E G) (q : ℕ) (e : E) (v : Seat P E G) : Type 0 where
-    pub holds : (K : Shared P E G) → SeesRest o q v K → (t : Turn) → IsTurn K.opening t → touches values group K.log e t ≡ true → 0 < times (slot_of K.opening t) v.held
+    pub holds : (K : Shared P E G) → SeesRest o q v K → (t : Turn) → IsTurn K.opening t
+        → touches values group K.log e t ≡ true → 0 < times (slot_of K.opening t) v.held
     pub may : (K : Shared P E G) → SeesRest o q v K → newest K < 2 ^ 63 → May values group e K
 
   -- Ring and area have room for what is placed so, by a base that the session has read, and the counts are
@@ -155,7 +160,8 @@ module _ {P E : Type 0} {G : Ghosts P} (state : P → PortState) (faults : P →
 
   -- Before a draw on the queue: the mark is not above the next number, and where nothing is under way it is
   -- past all that the session had seen; the side is what the rule says, and the rest is as it was known.
-  pub record IsMarked (o : Start P E G) (q : ℕ) (s : QueueSide P E G) (old : Seat P E G) (K : Shared P E G) : Type 0 where
+  pub record IsMarked (o : Start P E G) (q : ℕ) (s : QueueSide P E G) (old : Seat P E G)
+      (K : Shared P E G) : Type 0 where
     pub mark : mark_of q K.claims ≤ suc (newest K)
     pub past : IsResting s → old.seen < mark_of q K.claims
     pub side : IsSide values group q K s
@@ -172,7 +178,8 @@ module _ {P E : Type 0} {G : Ghosts P} (state : P → PortState) (faults : P →
 
   -- What was known at the draw; with the entry it is what the session then knows of all that the entry
   -- changes.
-  pub record Draws (o : Start P E G) (q : ℕ) (e : E) (old new : Seat P E G) (s : QueueSide P E G) (n : NumberedCommit) : Type 0 where
+  pub record Draws (o : Start P E G) (q : ℕ) (e : E) (old new : Seat P E G) (s : QueueSide P E G)
+      (n : NumberedCommit) : Type 0 where
     pub known : Shared P E G
     pub sees : SeesRest o q old known
     pub may : May values group e known
@@ -181,7 +188,9 @@ module _ {P E : Type 0} {G : Ghosts P} (state : P → PortState) (faults : P →
     pub past : IsResting s → old.seen < mark_of q known.claims
     pub commit : n.commit ≡ commit_of_tx (group.tx e)
     pub queue : n.queue ≡ q
-    pub held : new.held ≡ refreshed (λ k. touches values group known.log e (turn_at known.opening k)) (drawn e known) old.held
+    pub held : new.held
+        ≡ refreshed (λ k. touches values group known.log e (turn_at known.opening k))
+        (drawn e known) old.held
     pub drawn : new.drawn ≡ (n.number, e) ∷ old.drawn
     pub side : HoldsNumbered o q s n new
     pub sends : MaySend s n
@@ -200,10 +209,12 @@ module _ {P E : Type 0} {G : Ghosts P} (state : P → PortState) (faults : P →
 
   -- Whatever is known: with the report, the side is what the rule says.
   abbrev pub ShowsReport : ℕ → Report → QueueSide P E G → Seat P E G → Type 0
-  ShowsReport q r s v = (K : Shared P E G) → Sees machine v K → IsSide values group q (charged (reported q r) K) s
+  ShowsReport q r s v =
+      (K : Shared P E G) → Sees machine v K → IsSide values group q (charged (reported q r) K) s
 
   -- It was reported of the side's port, and the side was given back.
   pub record IsReported (o : Start P E G) (q : ℕ) (r : Report) (old new : Seat P E G) : Type 0 where
     pub known : Shared P E G
     pub sees : Sees machine old known
-    pub is : new ≡ giving (slot_of o (Side q)) (after_notice machine (notice.Charge (reported q r)) known old)
+    pub is : new
+        ≡ giving (slot_of o (Side q)) (after_notice machine (notice.Charge (reported q r)) known old)

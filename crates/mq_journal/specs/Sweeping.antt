@@ -3,9 +3,9 @@ use Rattle.std.specs.Prelude.{◌≡◌, ◌<◌, ◌≤◌, ℕ, List, ◌∷�
 use Rattle.mq_blocks.specs.Drive.{PortState}
 use Rattle.mq_drive.specs.Steps.{PortFault}
 use Rattle.mq_drive.specs.declared.port.Port.{Ghosts}
-use Rattle.mq_rules.specs.Groups.{GroupView}
-use Rattle.mq_side.specs.declared.answers.Cause.{Cause}
-use Rattle.mq_side.specs.declared.answers.Cause.TheVariants as cause
+use Rattle.mq_desk_laws.specs.Groups.{GroupView}
+use Rattle.mq_queue_side.specs.declared.answers.Cause.{Cause}
+use Rattle.mq_queue_side.specs.declared.answers.Cause.TheVariants as cause
 use Rattle.mq_turns.specs.Swept.{HasPassed}
 use Rattle.mq_journal.specs.Draining.{WasDrained, report_of}
 use Rattle.mq_journal.specs.Numbers.{ReadOn, Seat, reported}
@@ -17,7 +17,8 @@ NamesUpto at (cause.Failed tx status) = tx ≤ at
 NamesUpto at (cause.FailedHome block status) = Unit {0}
 NamesUpto at (cause.Stopped tx why) = tx ≤ at
 
-module _ {P E : Type 0} {G : Ghosts P} (state : P → PortState) (faults : P → List PortFault) (group : GroupView E) where
+module _ {P E : Type 0} {G : Ghosts P} (state : P → PortState) (faults : P → List PortFault)
+    (group : GroupView E) where
   -- More may be known to be done. Nothing else of the session has changed but its sweep, and it has no slot
   -- in hand.
   pub record HasSwept (old new : Seat P E G) : Type 0 where

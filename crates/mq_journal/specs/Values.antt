@@ -2,6 +2,7 @@
 use lib.Dec.{lit≤}
 use Rattle.std.specs.Prelude.{◌≡◌, ◌≢◌, ◌⊎◌, ◌<◌, ◌≤◌, ℕ, suc, ◌+◌, ◌-◌, ◌^◌, List, [], ◌∷◌, length, map, reverse, slice_index_or, Option, Some, None, nat_lt, if◌then◌else◌}
 use Rattle.mq_blocks.specs.Drive.{PortState, IsBoundKept, counted}
+use Rattle.mq_blocks.specs.Geometry.{shaped}
 use Rattle.mq_blocks.specs.declared.command.Command.{Command}
 use Rattle.mq_blocks.specs.declared.geometry.Geometry.{Geometry}
 use Rattle.mq_drive.specs.Steps.{PortFault}
@@ -10,15 +11,15 @@ use Rattle.mq_ledger.specs.History.{IsAt}
 use Rattle.mq_ledger.specs.Items.{end_of}
 use Rattle.mq_ledger.specs.declared.tx.Tx.{Tx}
 use Rattle.mq_pmr.specs.Rungs.{last_end}
-use Rattle.mq_rules.specs.Values.{Part, Values}
-use Rattle.mq_side.specs.Counts.{ahead, most_events}
-use Rattle.mq_side.specs.Side.{SideState, IsPassedOf, AreRungsOf, IsBelow, IsDoneOf, IsKept, HasTx, side_state}
-use Rattle.mq_side.specs.Stored.{AreStored}
-use Rattle.mq_side.specs.Told.{IsTold}
-use Rattle.mq_side.specs.declared.answers.Why.{Why}
-use Rattle.mq_side.specs.declared.drawn.Drawn.{Drawn}
-use Rattle.mq_side.specs.declared.root.Root.{Root}
-use Rattle.mq_side.specs.declared.side.QueueSide.{QueueSide}
+use Rattle.mq_desk_laws.specs.Values.{Part, Values}
+use Rattle.mq_queue_side.specs.Counts.{ahead, most_events}
+use Rattle.mq_queue_side.specs.Side.{SideState, IsPassedOf, AreRungsOf, IsBelow, IsDoneOf, IsKept, HasTx, side_state}
+use Rattle.mq_queue_side.specs.Stored.{AreStored}
+use Rattle.mq_queue_side.specs.Told.{IsTold}
+use Rattle.mq_queue_side.specs.declared.answers.Why.{Why}
+use Rattle.mq_queue_side.specs.declared.drawn.Drawn.{Drawn}
+use Rattle.mq_queue_side.specs.declared.root.Root.{Root}
+use Rattle.mq_queue_side.specs.declared.side.QueueSide.{QueueSide}
 use Rattle.mq_turns.specs.Lists.{Each}
 use Rattle.mq_turns.specs.declared.rule.Report.{Report}
 use Rattle.mq_turns.specs.declared.rule.Report.TheVariants as report
@@ -26,14 +27,16 @@ use Rattle.mq_turns.specs.declared.rule.Report.TheVariants as report
 -- how many of a queue's transactions were rung, of which the newest may not be
 abbrev pub rung_of : ℕ → List Tx → ℕ → ℕ
 rung_of start [] doorbell = 0
-rung_of start (t ∷ ts) doorbell = if nat_lt doorbell (end_of start (t ∷ ts)) then length ts else suc (length ts)
+rung_of start (t ∷ ts) doorbell =
+    if nat_lt doorbell (end_of start (t ∷ ts)) then length ts else suc (length ts)
 
 -- With the events that are still to come, no more have happened since the opening than the transactions and
 -- the faults allow. This holds until there are as many faults as a count of 64 bits can hold.
 abbrev pub AreFew : Part → SideState → Type 0
 AreFew p s =
     (2 ^ 64 - 1 ≤ length s.faults)
-    ⊎ (s.port.events + ahead (end_of p.start p.txs) s ≤ p.opened.events + most_events p.txs + length s.faults)
+    ⊎ (s.port.events + ahead
+    (end_of p.start p.txs) s ≤ p.opened.events + most_events p.txs + length s.faults)
 
 -- What a side's record says beside its port: its records are of the queue's transactions, the failure that
 -- it keeps is one of the faults that its port has gained since the opening, each transaction that was sent
@@ -57,7 +60,8 @@ abbrev pub IsRungUnlessKept : Part → SideState → Type 0
 IsRungUnlessKept p s = s.kept ≡ None → s.port.doorbell ≡ end_of p.start p.txs
 
 -- it says so too with another base word
-pub record_later : (p : Part) (word : ℕ) (s : SideState) → IsRecord p s → IsRecord (record p { word = word }) s
+pub record_later : (p : Part) (word : ℕ) (s : SideState) → IsRecord p s
+    → IsRecord (record p { word = word }) s
 record_later p word s is = record {
   geometry = is.geometry;
   queue = is.queue;
@@ -97,7 +101,8 @@ Shows from us doorbell failed kept report.Off = Unit {0}
 Shows from us doorbell failed kept (report.Failed tx status) = StaysFailed from us doorbell failed kept tx
 Shows from us doorbell failed kept (report.FailedHome block status) = Unit {0}
 Shows from us doorbell failed kept (report.Stopped tx None) = StaysCut from us doorbell kept tx
-Shows from us doorbell failed kept (report.Stopped tx (Some status)) = StaysFailed from us doorbell failed kept tx
+Shows from us doorbell failed kept (report.Stopped tx (Some status)) =
+    StaysFailed from us doorbell failed kept tx
 Shows from us doorbell failed kept (report.Sent tx) = IsBelow from us doorbell tx
 
 abbrev pub ShowsAll : ℕ → List Tx → SideState → List Report → Type 0
@@ -109,19 +114,7 @@ entries_in stored = reverse (map (λ d. (d.number, d.entry)) stored)
 
 -- where there is no side that says otherwise: of the smallest drive
 abbrev pub least_geometry : Geometry
-least_geometry = record {
-  queues = 1;
-  area = 1024;
-  meta = 4;
-  zone = 1;
-  queues_low = lit≤ tt;
-  queues_high = lit≤ tt;
-  area_low = lit≤ tt;
-  area_high = lit≤ tt;
-  meta_low = lit≤ tt;
-  zone_low = lit≤ tt;
-  homes_high = lit≤ tt;
-}
+least_geometry = shaped 1 1024 4 1 (lit≤ tt, lit≤ tt) (lit≤ tt, lit≤ tt) (lit≤ tt, lit≤ tt, lit≤ tt)
 
 module _ {P E : Type 0} {G : Ghosts P} (state : P → PortState) (faults : P → List PortFault) where
   -- what a side's record says, with what it stores of the transactions

@@ -11,7 +11,7 @@ use crate::machine::{Groups, JournalMachine};
 use crate::reporting::report_side;
 use mq_blocks::{QueueNo, TxNo};
 use mq_drive::Port;
-use mq_side::{Cause, QueueSide, Why};
+use mq_queue_side::{Cause, QueueSide, Why};
 use mq_turns::{Chair, Desk, Item, Report, Turn};
 use std::sync::Wait;
 
@@ -57,7 +57,7 @@ fn named_above(cause: &Cause, at: TxNo) -> Option<TxNo>
 }
 
 // Stores the queue's mark, below which all of the queue is done, and gives the side back.
-fn pass<P: Port + Drop, G: Groups>(
+pub(crate) fn pass<P: Port + Drop, G: Groups>(
     desk: &Desk<JournalMachine<P, G>>,
     chair: &mut Chair<JournalMachine<P, G>>,
     side: QueueSide<P, G::Entry>,

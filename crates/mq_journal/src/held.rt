@@ -1,6 +1,6 @@
 // The side of a queue that a session takes, and keeps in hand over several steps.
 ghost use Rattle.std.specs.Prelude.{◌≡◌, ◌<◌, IfErr, OnOk, None};
-ghost use Rattle.mq_rules.specs.Rule.{shape_of};
+ghost use Rattle.mq_desk_laws.specs.Rule.{shape_of};
 ghost use Rattle.mq_turns.specs.AtDesk.{AtDesk, view, start_of};
 ghost use Rattle.mq_turns.specs.Chairs.{giving};
 ghost use Rattle.mq_turns.specs.Desk.{IsTurn, slot_of};
@@ -13,7 +13,7 @@ ghost use Rattle.mq_journal.specs.Numbers.{HoldsSide, IsResting, IsSomeKnown, Sh
 use crate::machine::{Groups, JournalMachine};
 use mq_blocks::QueueNo;
 use mq_drive::Port;
-use mq_side::{Cause, QueueSide};
+use mq_queue_side::{Cause, QueueSide};
 use mq_turns::{Chair, Desk, Item, Turn};
 use std::sync::Wait;
 

@@ -5,7 +5,7 @@ ghost use Rattle.mq_journal.specs.Laws.{HeldSidesAreCurrent, KeptFailuresShow, S
 
 use crate::machine::Groups;
 use mq_drive::Port;
-use mq_side::QueueSide;
+use mq_queue_side::QueueSide;
 
 /// A session that holds the side of a queue holds it as it was while it takes and gives back the turns of
 /// other slots, while it reads words of the desk, and while a commit is prepared on the side.

@@ -9,6 +9,7 @@ mod machine;
 mod numbers;
 mod reporting;
 mod sending;
+mod settling;
 mod sweeping;
 
 pub use draining::{drain, report_of};
@@ -20,4 +21,5 @@ pub use machine::{Groups, JournalMachine};
 pub use numbers::number;
 pub use reporting::report_side;
 pub use sending::send;
+pub use settling::settle;
 pub use sweeping::drain_all;

@@ -1,16 +1,16 @@
 // The machine.
 
+use mq_desk_laws::JournalValues;
 use mq_drive::Port;
 use mq_pages::PageCell;
-use mq_rules::JournalValues;
-use mq_side::{QueueSide, Root};
+use mq_queue_side::{QueueSide, Root};
 use mq_turns::Machine;
 use std::marker::PhantomData;
 
 /// The groups of requests that a desk commits: the type of the entry that is drawn for a group, and how the
 /// rule of the desk reads such an entry.
 pub trait Groups {
-    ghost use Rattle.mq_rules.specs.Groups.{GroupView};
+    ghost use Rattle.mq_desk_laws.specs.Groups.{GroupView};
 
     /// A group, with its replies and its writes.
     type Entry: Drop;

@@ -1,7 +1,7 @@
 // A number is drawn for a group.
 ghost use Rattle.std.specs.Prelude.{◌≡◌, ◌<◌, None, length, vec_len, vec_capacity};
 ghost use Rattle.mq_revoke.specs.Guard.{placed_of};
-ghost use Rattle.mq_side.specs.Commits.{commit_of_tx};
+ghost use Rattle.mq_queue_side.specs.Commits.{commit_of_tx};
 ghost use Rattle.mq_turns.specs.AtDesk.{AtDesk, view, start_of, chairs_of};
 ghost use Rattle.mq_turns.specs.Desk.{Follows, IsInOrder, allotment};
 ghost use Rattle.mq_journal.specs.Machine.{journal};
@@ -9,7 +9,7 @@ ghost use Rattle.mq_journal.specs.Numbers.{Draws, HasPlace, HoldsSide, Marks, Ma
 
 use crate::machine::{Groups, JournalMachine};
 use mq_drive::Port;
-use mq_side::{Numbered, Prepared, QueueSide};
+use mq_queue_side::{Numbered, Prepared, QueueSide};
 use mq_turns::{Chair, Desk};
 
 // Looks, and stores the queue's mark where nothing of the queue is undone, so that the mark is not above

@@ -8,7 +8,7 @@ ghost use Rattle.mq_journal.specs.Numbers.{IsReported, ShowsReport};
 
 use crate::machine::{Groups, JournalMachine};
 use mq_drive::Port;
-use mq_side::QueueSide;
+use mq_queue_side::QueueSide;
 use mq_turns::{Chair, Charge, Desk, Item, Report, Turn};
 
 /// Enters a report in the account of the port of a queue's side, and gives the side back. With the

@@ -8,7 +8,7 @@ use crate::machine::{Groups, JournalMachine};
 use crate::reporting::report_side;
 use mq_blocks::TxNo;
 use mq_drive::{Off, Port};
-use mq_side::{Numbered, QueueSide};
+use mq_queue_side::{Numbered, QueueSide};
 use mq_turns::{Chair, Desk, Report};
 
 /// Sends a commit that was drawn last on the queue, and gives the side back. That it was rung is known

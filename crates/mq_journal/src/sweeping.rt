@@ -8,7 +8,7 @@ use crate::draining::drain;
 use crate::machine::{Groups, JournalMachine};
 use mq_blocks::{QueueNo, TxNo};
 use mq_drive::Port;
-use mq_side::Cause;
+use mq_queue_side::Cause;
 use mq_turns::{Chair, Desk};
 use std::sync::Wait;
 

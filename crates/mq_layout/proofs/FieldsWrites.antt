@@ -57,6 +57,26 @@ slot-written b b₁ b₂ b₃ b₄ b₅ start e room few e₁ e₂ e₃ e₄ e�
     let f₄ = written-more b b₃ b₄ start _ (start + 16) _ f₃ e₄ (omega arith) (omega arith) in
     written-more b b₄ b₅ start _ (start + 16 + length e.name) _ f₄ e₅ (omega arith) (omega arith)
 
+-- how many bytes the fields of an inode take, up to each of them
+pub record Lengths (i : Inode) : Type 0 where
+  pub three : length ((i.kind ∷ 0 ∷ []) ++ to_le_bytes w16 i.links ++ zero_bytes 4) ≡ 8
+  pub four : length ((i.kind ∷ 0 ∷ []) ++ to_le_bytes w16 i.links ++ zero_bytes 4 ++ to_le_bytes w64 i.size) ≡ 16
+  pub five : length ((i.kind ∷ 0 ∷ []) ++ to_le_bytes w16 i.links ++ zero_bytes 4 ++ to_le_bytes w64 i.size ++ list_bytes i.direct) ≡ 64
+  pub six : length ((i.kind ∷ 0 ∷ []) ++ to_le_bytes w16 i.links ++ zero_bytes 4 ++ to_le_bytes w64 i.size ++ list_bytes i.direct ++ to_le_bytes w32 i.indirect) ≡ 68
+
+pub lengths : (i : Inode) → length i.direct ≡ 12 → Lengths i
+lengths i twelve =
+    let l = length-zero_bytes 4 in
+    let d = length-list_bytes i.direct in
+    let xs₂ = (i.kind ∷ 0 ∷ []) ++ to_le_bytes w16 i.links in
+    let xs₃ = xs₂ ++ zero_bytes 4 in
+    let xs₄ = xs₃ ++ to_le_bytes w64 i.size in
+    let xs₅ = xs₄ ++ list_bytes i.direct in
+    let n₃ : length xs₃ ≡ 8 = length-append xs₂ (zero_bytes 4) ∙ ap (λ (n : ℕ). 4 + n) l in
+    let n₄ : length xs₄ ≡ 16 = omega (arith, length-append xs₃ (to_le_bytes w64 i.size)) in
+    let n₅ : length xs₅ ≡ 64 = omega (arith, length-append xs₄ (list_bytes i.direct)) in
+    record { three = n₃; four = n₄; five = n₅; six = omega (arith, length-append xs₅ (to_le_bytes w32 i.indirect)) }
+
 pub inode-written : (b b₁ b₂ b₃ b₄ b₅ b₆ b₇ : List ℕ) (start : ℕ) (i : Inode) → start + 128 ≤ length b → length i.direct ≡ 12
     → b₁ ≡ written b start (i.kind ∷ 0 ∷ []) → b₂ ≡ written b₁ (start + 2) (to_le_bytes w16 i.links) → b₃ ≡ written b₂ (start + 4) (zero_bytes 4)
     → b₄ ≡ written b₃ (start + 8) (to_le_bytes w64 i.size) → b₅ ≡ written b₄ (start + 16) (list_bytes i.direct) → b₆ ≡ written b₅ (start + 64) (to_le_bytes w32 i.indirect)
@@ -66,14 +86,11 @@ inode-written b b₁ b₂ b₃ b₄ b₅ b₆ b₇ start i room twelve e₁ e₂
     let l = length-zero_bytes 4 in
     let m = length-zero_bytes 60 in
     let d = length-list_bytes i.direct in
-    let xs₂ = (i.kind ∷ 0 ∷ []) ++ to_le_bytes w16 i.links in
-    let xs₃ = xs₂ ++ zero_bytes 4 in
-    let xs₄ = xs₃ ++ to_le_bytes w64 i.size in
-    let xs₅ = xs₄ ++ list_bytes i.direct in
-    let n₃ : length xs₃ ≡ 8 = length-append xs₂ (zero_bytes 4) ∙ ap (λ (n : ℕ). 4 + n) l in
-    let n₄ : length xs₄ ≡ 16 = omega (arith, length-append xs₃ (to_le_bytes w64 i.size)) in
-    let n₅ : length xs₅ ≡ 64 = omega (arith, length-append xs₄ (list_bytes i.direct)) in
-    let n₆ : length (xs₅ ++ to_le_bytes w32 i.indirect) ≡ 68 = omega (arith, length-append xs₅ (to_le_bytes w32 i.indirect)) in
+    let n = lengths i twelve in
+    let n₃ = n.three in
+    let n₄ = n.four in
+    let n₅ = n.five in
+    let n₆ = n.six in
     let f₂ = written-more b b₁ b₂ start _ (start + 2) _ e₁ e₂ (omega arith) (omega arith) in
     let f₃ = written-more b b₂ b₃ start _ (start + 4) _ f₂ e₃ (omega arith) (omega arith) in
     let f₄ = written-more b b₃ b₄ start _ (start + 8) _ f₃ e₄ (omega arith) (omega arith) in

@@ -15,6 +15,7 @@ use Rattle.mq_layout.specs.Fields.{nonzero, zero_bytes}
 use Rattle.mq_layout.specs.Inodes.{IsInode, ShowsInode, inode_at, inode_bytes, is_links, is_size, wrong_fields}
 use Rattle.mq_layout.specs.declared.inode.Inode.{Inode}
 use Rattle.mq_layout.proofs.Fields.{byte-shows, field-first, none-first, number-shows-2, number-shows-4, number-shows-8, pass, pass-field, pass-none}
+use Rattle.mq_layout.proofs.FieldsWrites.{lengths}
 use Rattle.mq_layout.proofs.FieldsZeros.{length-zero_bytes, none-nonzero, nonzero-none, shows-zeros, zeros-shown}
 
 -- the inode is what these bytes say
@@ -132,26 +133,7 @@ inode-good i p b small s none =
       indirect = let low = number_at-below 4 (p + 64) b small in let e = s.indirect in omega arith;
     }
 
--- how long its bytes are, part by part
-record Lengths (i : Inode) : Type 0 where
-  three : length ((i.kind ∷ 0 ∷ []) ++ to_le_bytes w16 i.links ++ zero_bytes 4) ≡ 8
-  four : length ((i.kind ∷ 0 ∷ []) ++ to_le_bytes w16 i.links ++ zero_bytes 4 ++ to_le_bytes w64 i.size) ≡ 16
-  five : length ((i.kind ∷ 0 ∷ []) ++ to_le_bytes w16 i.links ++ zero_bytes 4 ++ to_le_bytes w64 i.size ++ list_bytes i.direct) ≡ 64
-  six : length ((i.kind ∷ 0 ∷ []) ++ to_le_bytes w16 i.links ++ zero_bytes 4 ++ to_le_bytes w64 i.size ++ list_bytes i.direct ++ to_le_bytes w32 i.indirect) ≡ 68
-
-lengths : (i : Inode) → length i.direct ≡ 12 → Lengths i
-lengths i twelve =
-    let l = length-zero_bytes 4 in
-    let d = length-list_bytes i.direct in
-    let xs₂ = (i.kind ∷ 0 ∷ []) ++ to_le_bytes w16 i.links in
-    let xs₃ = xs₂ ++ zero_bytes 4 in
-    let xs₄ = xs₃ ++ to_le_bytes w64 i.size in
-    let xs₅ = xs₄ ++ list_bytes i.direct in
-    let n₃ : length xs₃ ≡ 8 = length-append xs₂ (zero_bytes 4) ∙ ap (λ (n : ℕ). 4 + n) l in
-    let n₄ : length xs₄ ≡ 16 = omega (arith, length-append xs₃ (to_le_bytes w64 i.size)) in
-    let n₅ : length xs₅ ≡ 64 = omega (arith, length-append xs₄ (list_bytes i.direct)) in
-    record { three = n₃; four = n₄; five = n₅; six = omega (arith, length-append xs₅ (to_le_bytes w32 i.indirect)) }
-
+-- how long its bytes are
 pub length-inode_bytes : (i : Inode) → length i.direct ≡ 12 → length (inode_bytes i) ≡ 128
 unfolding inode_bytes
 length-inode_bytes i twelve =

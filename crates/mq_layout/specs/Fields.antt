@@ -19,7 +19,9 @@ field cause offset right = if right then None else Some (refused cause offset)
 -- `count` numbers of `size` bytes each, from an offset on, which have to be 0: the first that is not.
 unfoldable pub nonzero : (size count from : ℕ) → List ℕ → Option LayoutRefusal
 nonzero size zero from block = None
-nonzero size (suc count) from block = if nat_eq (number_at size from block) 0 then nonzero size count (from + size) block else Some (refused Zero from)
+nonzero size (suc count) from block =
+    if nat_eq (number_at size from block) 0 then nonzero size count (from + size) block
+    else Some (refused Zero from)
 
 -- the first field that is refused
 unfoldable pub first : List (Option LayoutRefusal) → Option LayoutRefusal

@@ -45,7 +45,9 @@ is_links i = nat_eq i.links (if nat_eq i.kind 0 then 0 else 1)
 
 -- the size of a free inode is 0, and a directory's is whole blocks
 abbrev pub is_size : Inode → Bool
-is_size i = if nat_eq i.kind 0 then nat_eq i.size 0 else (nat_le i.size file_limit && (nat_eq i.kind 1 || nat_eq (i.size % 4096) 0))
+is_size i =
+    if nat_eq i.kind 0 then nat_eq i.size 0
+    else (nat_le i.size file_limit && (nat_eq i.kind 1 || nat_eq (i.size % 4096) 0))
 
 -- what is wrong with them, where `i` is what they say
 unfoldable pub wrong_fields : Inode → ℕ → List ℕ → Option LayoutRefusal

@@ -17,4 +17,6 @@ pub record IsName (name : List ℕ) : Type 0 where
 
 -- the same as a test
 unfoldable pub is_name : List ℕ → Bool
-is_name name = nat_le 1 (length name) && nat_le (length name) 255 && list_all is_letter name && not (bytes_eq name (46 ∷ [])) && not (bytes_eq name (46 ∷ 46 ∷ []))
+is_name name =
+    nat_le 1 (length name) && nat_le (length name) 255 && list_all is_letter name && not
+    (bytes_eq name (46 ∷ [])) && not (bytes_eq name (46 ∷ 46 ∷ []))

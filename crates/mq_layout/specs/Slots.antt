@@ -19,7 +19,9 @@ pub record IsEntry (e : Entry) : Type 0 where
 
 -- inode, used, length, zeros, name, zeros
 unfoldable pub slot_bytes : Entry → List ℕ
-slot_bytes e = to_le_bytes w32 e.inode ++ (1 ∷ length e.name ∷ []) ++ zero_bytes 10 ++ e.name ++ zero_bytes (256 - length e.name)
+slot_bytes e =
+    to_le_bytes w32 e.inode ++ (1 ∷ length e.name ∷ []) ++ zero_bytes 10 ++ e.name
+    ++ zero_bytes (256 - length e.name)
 
 -- an unused slot is all zeros
 abbrev pub ShowsSlot : List ℕ → ℕ → Option Entry → Type 0
@@ -43,7 +45,8 @@ wrong_used count from block = first (
 unfoldable pub wrong_from : ℕ → List ℕ → Option LayoutRefusal
 wrong_from from block =
     if nat_eq (slice_index block (from + 4)) 0 then nonzero 1 272 from block
-    else (if nat_eq (slice_index block (from + 4)) 1 then wrong_used (slice_index block (from + 5)) from block else Some (refused Used (from + 4)))
+    else (if nat_eq (slice_index block (from + 4)) 1
+    then wrong_used (slice_index block (from + 5)) from block else Some (refused Used (from + 4)))
 
 abbrev pub wrong_slot : List ℕ → ℕ → Option LayoutRefusal
 wrong_slot block at = wrong_from (272 * at) block

@@ -2,7 +2,7 @@
 use Rattle.std.proofs.Common.{◌≡◌, ◌⊎◌, ◌≢◌, ℕ, ◌+◌, ◌-◌, ◌<◌, ◌≤◌, ◌%◌, List, [], ◌∷◌, length, refl, ap, ◌∙◌, inl, inr, arith}
 use Rattle.std.proofs.lemmas.Bool.{cases_lt, cases_eq, lt-ltb, le-ltb, le-leb, lt-leb, eq-eqb, ne_eqb}
 use Rattle.mq_ledger.specs.History.{writes, upto, of_queue, IsAt}
-use Rattle.mq_ledger.specs.Items.{AtPlace, AtHome, write_at, item_at, item_of, copy_item, direct_item, commit_item, total, end_of, next, below, descriptor_blocks}
+use Rattle.mq_ledger.specs.Items.{Bytes, AtPlace, AtHome, write_at, item_at, item_of, copy_item, direct_item, descriptor_item, commit_item, total, end_of, next, below, further_blocks, descriptor_blocks}
 use Rattle.mq_ledger.specs.declared.tx.Tx.{Tx}
 use Rattle.mq_ledger.proofs.History.{upto-at, upto-past}
 use Rattle.mq_blocks.proofs.DriveRemainders.{mod_apart}
@@ -92,8 +92,17 @@ item-logged t txs i l = rw (lt-ltb _ _ l) refl
 pub item-direct : (t : Tx) (txs : List Tx) (i : ℕ) → length t.logged ≤ i → i < writes t → item_of t txs i ≡ direct_item t (i - length t.logged)
 item-direct t txs i l u = rw (le-ltb _ _ l, lt-ltb _ _ u) refl
 
-pub item-commit : (t : Tx) (txs : List Tx) (i : ℕ) → writes t ≤ i → item_of t txs i ≡ commit_item t txs
-item-commit t txs i l = rw (le-ltb i (length t.logged) (omega arith), le-ltb i (writes t) l) refl
+pub item-descriptor : (t : Tx) (txs : List Tx) (i : ℕ) → writes t ≤ i → item_of t txs i ≡ descriptor_item t txs (i - writes t)
+item-descriptor t txs i l = rw (le-ltb i (length t.logged) (omega arith), le-ltb i (writes t) l) refl
+
+-- the last of its descriptor's blocks, and one before it
+descriptor-last : (t : Tx) (txs : List Tx) → descriptor_item t txs (further_blocks t) ≡ commit_item t txs
+descriptor-last t txs = rw (le-leb (further_blocks t) (further_blocks t) (omega arith), le-ltb (further_blocks t) (further_blocks t) (omega arith)) refl
+
+pub item-commit : (t : Tx) (txs : List Tx) (i : ℕ) → i ≡ writes t + further_blocks t → item_of t txs i ≡ commit_item t txs
+item-commit t txs i e =
+    let at : i - writes t ≡ further_blocks t = omega arith in
+    item-descriptor t txs i (omega arith) ∙ ap (descriptor_item t txs) at ∙ descriptor-last t txs
 
 pub item-number : (t : Tx) (txs : List Tx) (i : ℕ) → (item_of t txs i).number ≡ t.number
 item-number t txs i =
@@ -101,18 +110,18 @@ item-number t txs i =
       | inl a ↦ rw (item-logged t txs i a) refl
       | inr a ↦ elim (cases_lt i (writes t)) [
         | inl b ↦ rw (item-direct t txs i a b) refl
-        | inr b ↦ rw (item-commit t txs i b) refl
+        | inr b ↦ rw (item-descriptor t txs i b) refl
       ]
     ]
 
--- an entry with a place is a logged copy or the descriptor
-pub item-place : (t : Tx) (txs : List Tx) (i p : ℕ) → (item_of t txs i).target ≡ AtPlace p → ((i < length t.logged) × (p ≡ next txs + i)) ⊎ ((writes t ≤ i) × (p ≡ next txs + length t.logged))
+-- an entry with a place is a logged copy or a block of the descriptor
+pub item-place : (t : Tx) (txs : List Tx) (i p : ℕ) → (item_of t txs i).target ≡ AtPlace p → ((i < length t.logged) × (p ≡ next txs + i)) ⊎ ((writes t ≤ i) × (p ≡ next txs + (length t.logged + (i - writes t))))
 item-place t txs i p e =
     elim (cases_lt i (length t.logged)) [
       | inl a ↦ (let k = rw (item-logged t txs i a) at e in inl (a, inj k))
       | inr a ↦ elim (cases_lt i (writes t)) [
         | inl b ↦ absurd (let k = rw (item-direct t txs i a b) at e in apart k)
-        | inr b ↦ (let k = rw (item-commit t txs i b) at e in inr (b, inj k))
+        | inr b ↦ (let k = rw (item-descriptor t txs i b) at e in inr (b, inj k))
       ]
     ]
   where
@@ -126,7 +135,7 @@ pub record IsDirectItem (t : Tx) (txs : List Tx) (i x : ℕ) : Type 0 where
   pub low : length t.logged ≤ i
   pub high : i < writes t
   pub block : (write_at t.direct (i - length t.logged)).0 ≡ x
-  pub content : (item_of t txs i).content ≡ (write_at t.direct (i - length t.logged)).1
+  pub content : (item_of t txs i).content ≡ Bytes (write_at t.direct (i - length t.logged)).1
 
 -- an entry with a home block is a direct write
 pub item-home : (t : Tx) (txs : List Tx) (i x : ℕ) → (item_of t txs i).target ≡ AtHome x → IsDirectItem t txs i x
@@ -136,9 +145,9 @@ item-home t txs i x e =
       | inr a ↦ elim (cases_lt i (writes t)) [
         | inl b ↦
             let k = rw (item-direct t txs i a b) at e in
-            let content : (item_of t txs i).content ≡ (write_at t.direct (i - length t.logged)).1 = rw (item-direct t txs i a b) refl in
+            let content : (item_of t txs i).content ≡ Bytes (write_at t.direct (i - length t.logged)).1 = rw (item-direct t txs i a b) refl in
             record { low = a; high = b; block = inj k; content = content }
-        | inr b ↦ absurd (let k = rw (item-commit t txs i b) at e in apart k)
+        | inr b ↦ absurd (let k = rw (item-descriptor t txs i b) at e in apart k)
       ]
     ]
   where
@@ -199,11 +208,11 @@ item_of_at from q t ts (u ∷ txs) i own (inr deeper) l =
 
 -- ---- places rise with the counts
 
-pub place_of_count : (from : ℕ) (t : Tx) (txs : List Tx) (c p : ℕ) → end_of from txs ≤ c → (item_at from (t ∷ txs) c).target ≡ AtPlace p → (next txs ≤ p) × (p ≤ next txs + length t.logged)
-place_of_count from t txs c p l e =
+pub place_of_count : (from : ℕ) (t : Tx) (txs : List Tx) (c p : ℕ) → end_of from txs ≤ c → c < end_of from (t ∷ txs) → (item_at from (t ∷ txs) c).target ≡ AtPlace p → (next txs ≤ p) × (p < next (t ∷ txs))
+place_of_count from t txs c p l u e =
     elim (item-place t txs (c - end_of from txs) p (rw (item_at-in from t txs c l) at e)) [
       | inl a ↦ (omega (arith, a.1), omega (arith, a.0, a.1))
-      | inr b ↦ (omega (arith, b.1), omega (arith, b.1))
+      | inr b ↦ (omega (arith, b.1), omega (arith, b.0, b.1))
     ]
 
 pub place_below : (from : ℕ) (txs : List Tx) (c p : ℕ) → from ≤ c → c < end_of from txs → (item_at from txs c).target ≡ AtPlace p → p < next txs
@@ -211,7 +220,7 @@ place_below from [] c p l u e = absurd (omega arith)
 place_below from (t ∷ txs) c p l u e =
     elim (cases_lt c (end_of from txs)) [
       | inl before ↦ omega (arith, place_below from txs c p l before (rw (item_at-before from t txs c before) at e))
-      | inr at ↦ omega (arith, (place_of_count from t txs c p at e).1)
+      | inr at ↦ (place_of_count from t txs c p at u e).1
     ]
 
 pub places_rise : (from : ℕ) (txs : List Tx) (c d p r : ℕ) → from ≤ c → c < d → d < end_of from txs → (item_at from txs c).target ≡ AtPlace p → (item_at from txs d).target ≡ AtPlace r → p < r
@@ -221,16 +230,17 @@ places_rise from (t ∷ txs) c d p r l m u e g =
       | inl before ↦ places_rise from txs c d p r l m before (rw (item_at-before from t txs c (omega arith)) at e) (rw (item_at-before from t txs d before) at g)
       | inr at ↦
           elim (cases_lt c (end_of from txs)) [
-            | inl less ↦ omega (arith, place_below from txs c p l less (rw (item_at-before from t txs c less) at e), (place_of_count from t txs d r at g).0)
+            | inl less ↦ omega (arith, place_below from txs c p l less (rw (item_at-before from t txs c less) at e), (place_of_count from t txs d r at u g).0)
             | inr both ↦ in_one (item-place t txs _ p (rw (item_at-in from t txs c both) at e)) (item-place t txs _ r (rw (item_at-in from t txs d at) at g)) both
           ]
     ]
   where
-    in_one : ((c - end_of from txs < length t.logged) × (p ≡ next txs + (c - end_of from txs))) ⊎ ((writes t ≤ c - end_of from txs) × (p ≡ next txs + length t.logged)) → ((d - end_of from txs < length t.logged) × (r ≡ next txs + (d - end_of from txs))) ⊎ ((writes t ≤ d - end_of from txs) × (r ≡ next txs + length t.logged)) → end_of from txs ≤ c → p < r
+    in_one : ((c - end_of from txs < length t.logged) × (p ≡ next txs + (c - end_of from txs))) ⊎ ((writes t ≤ c - end_of from txs) × (p ≡ next txs + (length t.logged + (c - end_of from txs - writes t))))
+        → ((d - end_of from txs < length t.logged) × (r ≡ next txs + (d - end_of from txs))) ⊎ ((writes t ≤ d - end_of from txs) × (r ≡ next txs + (length t.logged + (d - end_of from txs - writes t)))) → end_of from txs ≤ c → p < r
     in_one (inl a) (inl b) both = omega (arith, a.1, b.1)
     in_one (inl a) (inr b) both = omega (arith, a.0, a.1, b.1)
     in_one (inr a) (inl b) both = absurd (omega (arith, a.0, b.0))
-    in_one (inr a) (inr b) both = absurd (omega (arith, a.0))
+    in_one (inr a) (inr b) both = omega (arith, a.0, a.1, b.0, b.1)
 
 -- places of the transactions above a number are not less those of the others
 pub place_above : (from n : ℕ) (txs : List Tx) (c p : ℕ) → end_of from (upto n txs) ≤ c → c < end_of from txs → (item_at from txs c).target ≡ AtPlace p → next (upto n txs) ≤ p
@@ -241,7 +251,7 @@ place_above from n (t ∷ txs) c p l u e =
           let l' = rw (upto-past n t txs past) at l in
           rw (upto-past n t txs past) (elim (cases_lt c (end_of from txs)) [
             | inl before ↦ place_above from n txs c p l' before (rw (item_at-before from t txs c before) at e)
-            | inr at ↦ (let k = (place_of_count from t txs c p at e).0 in let m = next_upto n txs in omega arith)
+            | inr at ↦ (let k = (place_of_count from t txs c p at u e).0 in let m = next_upto n txs in omega arith)
           ])
       | inr at ↦ absurd (let l' = rw (upto-at n t txs at) at l in omega arith)
     ]

@@ -9,7 +9,7 @@ use Rattle.std.proofs.lemmas.Cmp.{ranked}
 use Rattle.std.proofs.lemmas.List.{length-map, get_or-map, map-append, drop_more, drop_all, get_or_append_left, get_or-append-add, length-append}
 use Rattle.std.proofs.lemmas.List.Elements.{All-cons, All-tail, All-head, All-nil}
 use Rattle.std.proofs.lemmas.List.Sorted.{IsNonDecreasingBy-from_default}
-use Rattle.mq_area.proofs.DescriptorRising.{rising-order}
+use Rattle.mq_blocks.proofs.DescriptorRising.{rising-order}
 use Rattle.mq_blocks.specs.Descriptor.{AreRising, AreApart}
 use Rattle.mq_blocks.specs.Journal.{is_among}
 use Rattle.mq_ledger.specs.Form.{IsAscending}

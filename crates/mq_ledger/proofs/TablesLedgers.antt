@@ -7,6 +7,7 @@ use Rattle.mq_blocks.specs.Geometry.{homes_of}
 use Rattle.mq_blocks.specs.Journal.{is_among, number_limit}
 use Rattle.mq_blocks.specs.Machine.{write_of}
 use Rattle.mq_blocks.specs.declared.geometry.Geometry.{Geometry}
+use Rattle.mq_blocks.proofs.DescriptorLimits.{limit-high}
 use Rattle.mq_ledger.specs.History.{blocks_of, writes, changes, last, last_logged, upto, of_queue, IsAt, AreNumbered}
 use Rattle.mq_ledger.specs.Items.{total, end_of, next, below, descriptor_blocks}
 use Rattle.mq_ledger.specs.KnownJournal.{IsTx}
@@ -243,7 +244,7 @@ pub record FitsTable (size : ℕ) (t : Tx) : Type 0 where
 pub fits_table : (g : Geometry) (size : ℕ) (t : Tx) → IsTx g t → size ≡ homes_of g → FitsTable size t
 fits_table g size t form e =
     let P : ℕ → Type 0 = λ n. FitsTable n t in
-    let here : P (homes_of g) = record { freed = form.freed; logged = form.logged; direct = form.direct; few = (let few = form.few in omega arith) } in
+    let here : P (homes_of g) = record { freed = form.freed; logged = form.logged; direct = form.direct; few = (let few = form.few in let most = limit-high g in omega arith) } in
     subst P (sym e) here
 
 module _ (s : Ledger) (newest settled : List Latest) (queue_rows : List (List Row)) (ends : List ℕ) (old : AreTables s newest settled queue_rows ends) (more : s.front < s.base + length s.history) (history : List Tx) (u : Tx) (same : s.history ≡ reverse history) (read : u ≡ get_or history (s.front - s.base) u) where

@@ -36,7 +36,10 @@ last_logged base (t ∷ ts) x = if is_some (write_of t.logged x) then t.number e
 -- of these, a copy of the block above the number is revoked by no later one
 abbrev pub is_exposed : ℕ → List Tx → ℕ → Bool
 is_exposed n [] x = false
-is_exposed n (t ∷ ts) x = if nat_le t.number n then false else (if is_some (write_of t.logged x) then true else (if is_among x t.revoked then false else is_exposed n ts x))
+is_exposed n (t ∷ ts) x =
+    if nat_le t.number n then false
+    else (if is_some (write_of t.logged x) then true
+    else (if is_among x t.revoked then false else is_exposed n ts x))
 
 -- the numbers follow one another from the base on
 abbrev pub AreNumbered : ℕ → List Tx → Type 0

@@ -48,7 +48,8 @@ pub record IsTx (g : Geometry) (t : Tx) : Type 0 where
 pub record IsPlaced (k : KnownJournal) (t : Tx) (ts : List Tx) : Type 0 where
   pub free : (x : ℕ) → is_among x (blocks_of t.direct) ≡ true → map_after k.start ts x ≡ None
   pub settled : (x : ℕ) → is_among x (blocks_of t.direct) ≡ true → last k.base ts x ≤ front k
-  pub hidden : (x : ℕ) → is_among x (blocks_of t.direct) ≡ true → is_among x t.revoked ≡ false → is_exposed k.word ts x ≡ false
+  pub hidden : (x : ℕ) → is_among x (blocks_of t.direct) ≡ true → is_among x t.revoked ≡ false
+      → is_exposed k.word ts x ≡ false
 
 pub record LogOk (k : KnownJournal) : Type 0 where
   pub entries : AreRead k.entries
@@ -70,7 +71,9 @@ pub record MayDraw (k : KnownJournal) (t : Tx) : Type 0 where
   pub form : IsTx k.geometry t
   pub number : t.number ≡ k.base + length k.history + 1
   pub limit : t.number ≤ number_limit
-  pub freed : (x : ℕ) → is_among x t.freed ≡ true → (block : List ℕ) × (map_after k.start k.history x ≡ Some block)
+  pub freed : (x : ℕ) → is_among x t.freed ≡ true
+      → (block : List ℕ) × (map_after k.start k.history x ≡ Some block)
   pub free : (x : ℕ) → is_among x (blocks_of t.direct) ≡ true → map_after k.start k.history x ≡ None
   pub settled : (x : ℕ) → is_among x (blocks_of t.direct) ≡ true → last k.base k.history x ≤ front k
-  pub revoked : (x : ℕ) → is_among x (blocks_of t.direct) ≡ true → k.word < last_logged k.base k.history x → is_among x t.revoked ≡ true
+  pub revoked : (x : ℕ) → is_among x (blocks_of t.direct) ≡ true
+      → k.word < last_logged k.base k.history x → is_among x t.revoked ≡ true

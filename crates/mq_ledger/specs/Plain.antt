@@ -1,5 +1,7 @@
--- Entries as the machine writes them: the three things that an entry says, one after another.
+-- Entries as the machine writes them: the three things that an entry says, one after another. Its
+-- descriptors have the journal's form.
 use Rattle.std.specs.Prelude.{ℕ, ◌==◌, List, [], ◌∷◌, Option, Some, None, if◌then◌else◌}
+use Rattle.mq_blocks.specs.Descriptor.{journal_form}
 use Rattle.mq_blocks.specs.Journal.{WriteFields}
 use Rattle.mq_ledger.specs.Items.{Entries}
 
@@ -11,4 +13,4 @@ plain_says (number ∷ lba ∷ commit ∷ []) = Some (number, lba, commit == 1)
 plain_says _ = None
 
 abbrev pub plain : Entries
-plain = record { entry = λ slot s. plain_entry s; says = plain_says }
+plain = record { entry = λ slot s. plain_entry s; says = plain_says; form = journal_form }

@@ -1,14 +1,16 @@
 -- What holds of a port, by the history and by what is known to be done and to be kept at home.
 use Rattle.std.specs.Prelude.{◌≡◌, ◌<◌, ◌≤◌, ℕ, ◌+◌, ◌-◌, ◌*◌, ◌%◌, ◌^◌, Bool, true, false, List, [], ◌∷◌, length, Option, Some, None, nat_eq, slice_index_or, if◌then◌else◌}
 use Rattle.mq_blocks.specs.Blocks.{block_at}
-use Rattle.mq_blocks.specs.Drive.{PortState, IsCertain, IsFlushed, AreFrom, AreCounted, staged_end, depth, usable_depth}
+use Rattle.mq_blocks.specs.Descriptor.{DescriptorForm}
+use Rattle.mq_blocks.specs.Limits.{depth, usable_depth}
+use Rattle.mq_blocks.specs.Drive.{PortState, IsCertain, IsFlushed, AreFrom, AreCounted, staged_end}
 use Rattle.mq_blocks.specs.Geometry.{homes_of, zone_of}
 use Rattle.mq_blocks.specs.Journal.{number_limit}
 use Rattle.mq_blocks.specs.Ports.{IsPort}
 use Rattle.mq_blocks.specs.declared.command.Command.{Command}
 use Rattle.mq_blocks.specs.declared.geometry.Geometry.{Geometry}
 use Rattle.mq_ledger.specs.History.{writes, map_after, last, upto, of_queue, IsAt, IsPart}
-use Rattle.mq_ledger.specs.Items.{AtPlace, AtHome, said_of, command_of, end_of, next, item_at, IsEnd, descriptor_blocks}
+use Rattle.mq_ledger.specs.Items.{AtPlace, AtHome, bytes_of, said_of, command_of, end_of, next, item_at, IsEnd, descriptor_blocks}
 use Rattle.mq_ledger.specs.KnownJournal.{KnownJournal, front}
 use Rattle.mq_ledger.specs.declared.tx.Tx.{Tx}
 
@@ -58,16 +60,21 @@ pub record AreEnds (from : ℕ) (txs : List Tx) (p : PortState) : Type 0 where
 -- a commit request of a number up to the base.
 pub record IsRing (k : KnownJournal) (q : ℕ) (txs : List Tx) (p : PortState) : Type 0 where
   pub settled : (n : ℕ) → IsFlushed p n → slice_index_or p.staged n [] ≡ slice_index_or p.flushed n []
-  pub start : 0 < k.from q → p.head ≡ k.from q → (n : ℕ) × (lba : ℕ) × (k.entries.says (flushed_at p (k.from q - 1)) ≡ Some (n, lba, true)) × (n ≤ k.base)
-  pub rung : (c : ℕ) → k.from q ≤ c → p.head ≤ c + 1 → c < p.doorbell → k.entries.says (flushed_at p c) ≡ Some (said_of k.geometry q (item_at (k.from q) txs c))
-  pub waits : (c : ℕ) → p.doorbell ≤ c → c < staged_end p → k.entries.says (staged_at p c) ≡ Some (said_of k.geometry q (item_at (k.from q) txs c))
+  pub start : 0 < k.from q → p.head ≡ k.from q
+      → (n : ℕ) × (lba : ℕ) × (k.entries.says (flushed_at p (k.from q - 1)) ≡ Some (n, lba, true))
+      × (n ≤ k.base)
+  pub rung : (c : ℕ) → k.from q ≤ c → p.head ≤ c + 1 → c < p.doorbell
+      → k.entries.says (flushed_at p c) ≡ Some (said_of k.geometry q (item_at (k.from q) txs c))
+  pub waits : (c : ℕ) → p.doorbell ≤ c → c < staged_end p
+      → k.entries.says (staged_at p c) ≡ Some (said_of k.geometry q (item_at (k.from q) txs c))
 
 -- ---- its commands
 
 -- each is the write of its count's entry
-abbrev pub AreOwn : Geometry → ℕ → ℕ → List Tx → List Command → Type 0
-AreOwn g q from txs [] = Unit {0}
-AreOwn g q from txs (c ∷ cs) = (c ≡ command_of g q c.count (item_at from txs c.count)) × AreOwn g q from txs cs
+abbrev pub AreOwn : DescriptorForm → Geometry → ℕ → ℕ → List Tx → List Command → Type 0
+AreOwn form g q from txs [] = Unit {0}
+AreOwn form g q from txs (c ∷ cs) =
+    (c ≡ command_of form g q c.count (item_at from txs c.count)) × AreOwn form g q from txs cs
 
 -- their counts follow one another from this one on
 abbrev pub AreNext : ℕ → List Command → Type 0
@@ -80,12 +87,13 @@ holds_count n (c ∷ cs) = if nat_eq c.count n then true else holds_count n cs
 
 -- Staged commands wait for the ring; no command below the stored head is posted or failed, so all of
 -- them are completed with success.
-pub record AreCommands (g : Geometry) (q from : ℕ) (txs : List Tx) (p : PortState) : Type 0 where
-  pub pending : AreOwn g q from txs p.pending
+pub record AreCommands (form : DescriptorForm) (g : Geometry) (q from : ℕ) (txs : List Tx)
+    (p : PortState) : Type 0 where
+  pub pending : AreOwn form g q from txs p.pending
   pub pending_counts : AreNext p.doorbell p.pending
-  pub posted : AreOwn g q from txs p.posted
+  pub posted : AreOwn form g q from txs p.posted
   pub posted_counts : AreCounted p.stored_head p.doorbell p.posted
-  pub failed : AreOwn g q from txs p.failed
+  pub failed : AreOwn form g q from txs p.failed
   pub failed_counts : AreFrom p.stored_head p.failed
 
 -- a rung command has completed with success
@@ -101,16 +109,21 @@ pub record IsDone (p : PortState) (c : ℕ) : Type 0 where
 pub record IsArea (k : KnownJournal) (q : ℕ) (txs : List Tx) (p : PortState) : Type 0 where
   pub fits : next txs ≤ next (upto k.word txs) + k.geometry.area
   pub limit : next txs ≤ 2 ^ 62
-  pub holds : (c place : ℕ) → end_of (k.from q) (upto k.word txs) ≤ c → IsDone p c → (item_at (k.from q) txs c).target ≡ AtPlace place → Certainly p (place_index k.geometry place) (item_at (k.from q) txs c).content
+  pub holds : (c place : ℕ) → end_of (k.from q) (upto k.word txs) ≤ c → IsDone p c
+      → (item_at (k.from q) txs c).target ≡ AtPlace place
+      → Certainly p (place_index k.geometry place)
+      (bytes_of k.entries.form (item_at (k.from q) txs c).content)
 
 -- the content is at home, unless a number above v and up to the front changed the block
 abbrev pub IsKept : KnownJournal → PortState → ℕ → ℕ → List ℕ → Type 0
-IsKept k p x v content = last k.base (upto (front k) k.history) x ≤ v → Certainly p (home_index k.geometry x) content
+IsKept k p x v content =
+    last k.base (upto (front k) k.history) x ≤ v → Certainly p (home_index k.geometry x) content
 
 -- the home blocks of a port whose contents are due
 abbrev pub AreHome : KnownJournal → Option ℕ → PortState → Type 0
 AreHome k z p =
-    (x v : ℕ) (content : List ℕ) → x < homes_of k.geometry → zone_of k.geometry x ≡ z → k.due x v ≡ true → map_after k.start (upto v k.history) x ≡ Some content → IsKept k p x v content
+    (x v : ℕ) (content : List ℕ) → x < homes_of k.geometry → zone_of k.geometry x ≡ z → k.due x v ≡ true
+    → map_after k.start (upto v k.history) x ≡ Some content → IsKept k p x v content
 
 -- The port of the queue q, where its entries are those of `txs`: of all its transactions, or of those
 -- before some newer ones.
@@ -122,14 +135,17 @@ pub record SideOk (k : KnownJournal) (q : ℕ) (txs : List Tx) (p : PortState) :
   pub limit : end_of (k.from q) txs ≤ number_limit
   pub ends : AreEnds (k.from q) txs p
   pub ring : IsRing k q txs p
-  pub commands : AreCommands k.geometry q (k.from q) txs p
+  pub commands : AreCommands k.entries.form k.geometry q (k.from q) txs p
   pub area : IsArea k q txs p
   -- what the base covers stands below the head
   pub based : end_of (k.from q) (upto k.word txs) ≤ p.head
   -- what is known to be done stands below the head
-  pub done : (t : Tx) (ts : List Tx) → IsAt t ts k.history → t.queue ≡ q → k.done t ts ≡ true → end_of (k.from q) (of_queue q ts) + (writes t + descriptor_blocks t) ≤ p.head
+  pub done : (t : Tx) (ts : List Tx) → IsAt t ts k.history → t.queue ≡ q → k.done t ts ≡ true
+      → end_of (k.from q) (of_queue q ts) + (writes t + descriptor_blocks t) ≤ p.head
   -- each completed direct write is at home
-  pub direct : (c x : ℕ) → k.from q ≤ c → IsDone p c → (item_at (k.from q) txs c).target ≡ AtHome x → IsKept k p x (item_at (k.from q) txs c).number (item_at (k.from q) txs c).content
+  pub direct : (c x : ℕ) → k.from q ≤ c → IsDone p c → (item_at (k.from q) txs c).target ≡ AtHome x
+      → IsKept k p x (item_at (k.from q) txs c).number
+      (bytes_of k.entries.form (item_at (k.from q) txs c).content)
   pub homes : AreHome k (Some q) p
 
 -- the root's port: the base word as flushed and as stored, and the metadata region

@@ -21,10 +21,13 @@ use Rattle.mq_ledger.specs.declared.tx.Tx.{Tx}
 abbrev pub Stands : List (Option (List ℕ)) → List Tx → ℕ → Place → Option (List ℕ) → Type 0
 Stands start h x Free c = c ≡ None
 Stands start h x Start c = c ≡ slice_index_or start x None
-Stands start h x (Written n i) c = (t : Tx) × (ts : List Tx) × IsAt t ts h × (t.number ≡ n) × (i < writes t) × (c ≡ Some (write_at (t.logged ++ t.direct) i).1)
+Stands start h x (Written n i) c =
+    (t : Tx) × (ts : List Tx) × IsAt t ts h × (t.number ≡ n) × (i < writes t)
+    × (c ≡ Some (write_at (t.logged ++ t.direct) i).1)
 
 -- what is kept of a block is right after these transactions
-pub record IsLatest (start : List (Option (List ℕ))) (base : ℕ) (h : List Tx) (x : ℕ) (l : Latest) : Type 0 where
+pub record IsLatest (start : List (Option (List ℕ))) (base : ℕ) (h : List Tx) (x : ℕ)
+    (l : Latest) : Type 0 where
   pub change : l.change ≡ last base h x
   pub logged : l.logged ≡ last_logged base h x
   pub place : Stands start h x l.place (map_after (start_map start) h x)
@@ -35,13 +38,16 @@ no_latest = record { change = 0; logged = 0; place = Free }
 abbrev pub latest_at : List Latest → ℕ → Latest
 latest_at table x = slice_index_or table x no_latest
 
-pub record AreLatest (start : List (Option (List ℕ))) (base : ℕ) (h : List Tx) (homes : ℕ) (table : List Latest) : Type 0 where
+pub record AreLatest (start : List (Option (List ℕ))) (base : ℕ) (h : List Tx) (homes : ℕ)
+    (table : List Latest) : Type 0 where
   pub size : length table ≡ homes
   pub each : (x : ℕ) → x < homes → IsLatest start base h x (latest_at table x)
 
 -- the table with one more change of a block: a copy, or not
 abbrev pub put_mark : ℕ → Bool → Place → ℕ → List Latest → List Latest
-put_mark n copied place x table = slice_set table x (record { change = n; logged = (if copied then n else (latest_at table x).logged); place = place })
+put_mark n copied place x table =
+    slice_set table x
+    (record { change = n; logged = (if copied then n else (latest_at table x).logged); place = place })
 
 abbrev pub after_freed : ℕ → List ℕ → List Latest → List Latest
 after_freed n [] table = table
@@ -50,10 +56,13 @@ after_freed n (x ∷ xs) table = after_freed n xs (put_mark n false Free x table
 -- these writes stand behind `i` others of their transaction
 abbrev pub after_writes : ℕ → Bool → ℕ → Writes → List Latest → List Latest
 after_writes n copied i [] table = table
-after_writes n copied i (w ∷ ws) table = after_writes n copied (i + 1) ws (put_mark n copied (Written n i) w.0 table)
+after_writes n copied i (w ∷ ws) table =
+    after_writes n copied (i + 1) ws (put_mark n copied (Written n i) w.0 table)
 
 abbrev pub after_tx : Tx → List Latest → List Latest
-after_tx t table = after_writes t.number true 0 t.logged (after_writes t.number false (length t.logged) t.direct (after_freed t.number t.freed table))
+after_tx t table =
+    after_writes t.number true 0 t.logged
+    (after_writes t.number false (length t.logged) t.direct (after_freed t.number t.freed table))
 
 -- ---- the rows of a queue
 
@@ -93,10 +102,13 @@ is_up_to number r = nat_le r.number number
 
 -- the count behind each transaction, newest first
 abbrev pub ends_of : List ℕ → List Tx → List ℕ
-ends_of starts h = along (λ t ts. end_of (from_at starts t.queue) (of_queue t.queue ts) + (writes t + descriptor_blocks t)) h
+ends_of starts h =
+    along (λ t ts. end_of (from_at starts t.queue)
+    (of_queue t.queue ts) + (writes t + descriptor_blocks t)) h
 
 -- The derived data are right.
-pub record AreTables (s : Ledger) (newest settled : List Latest) (queue_rows : List (List Row)) (ends : List ℕ) : Type 0 where
+pub record AreTables (s : Ledger) (newest settled : List Latest) (queue_rows : List (List Row))
+    (ends : List ℕ) : Type 0 where
   pub numbers : AreNumbered s.base s.history
   pub limit : s.base + length s.history ≤ number_limit
   pub front_low : s.base ≤ s.front
@@ -107,13 +119,22 @@ pub record AreTables (s : Ledger) (newest settled : List Latest) (queue_rows : L
   pub newest_is : AreLatest s.start s.base s.history (homes_of s.geometry) newest
   pub settled_is : AreLatest s.start s.base (upto s.front s.history) (homes_of s.geometry) settled
   pub lanes_size : length queue_rows ≡ s.geometry.queues
-  pub lanes_are : (q : ℕ) → q < s.geometry.queues → slice_index_or queue_rows q [] ≡ reverse (rows_of (from_of s q) (own s q))
+  pub lanes_are : (q : ℕ) → q < s.geometry.queues
+      → slice_index_or queue_rows q [] ≡ reverse (rows_of (from_of s q) (own s q))
   pub ends_are : ends ≡ reverse (ends_of s.starts s.history)
   pub counts : (q : ℕ) → q < s.geometry.queues → end_of (from_of s q) (own s q) ≤ number_limit
   pub places : (q : ℕ) → q < s.geometry.queues → next (own s q) ≤ 2 ^ 62
 
 abbrev pub ledger_of : Inside → Ledger
-ledger_of l = record { geometry = l.geometry; start = l.start.items; base = l.base; starts = l.starts.items; history = reverse l.history.items; front = l.front }
+ledger_of l =
+    record {
+      geometry = l.geometry;
+      start = l.start.items;
+      base = l.base;
+      starts = l.starts.items;
+      history = reverse l.history.items;
+      front = l.front;
+    }
 
 abbrev pub HasTables : Inside → Type 0
 HasTables l = AreTables (ledger_of l) l.newest.items l.settled.items l.queue_rows.items l.ends.items

@@ -15,6 +15,6 @@ pub use content::{Blocks, Content, Writes, copy_blocks, copy_content};
 pub use entry::PlainEntry;
 pub use form::is_transaction;
 pub use queue_rows::QueueEnd;
-pub use records::{DESCRIPTOR_BLOCKS, Ledger, repeated};
+pub use records::{Ledger, descriptor_blocks, repeated};
 pub use staging::Staged;
 pub use tx::Tx;

@@ -6,7 +6,7 @@ ghost use Rattle.mq_blocks.specs.Journal.{number_limit};
 ghost use Rattle.mq_ledger.specs.KnownJournal.{KnownJournal, MayDraw};
 ghost use Rattle.mq_ledger.specs.Form.{IsAscending};
 ghost use Rattle.mq_ledger.specs.History.{blocks_of, writes, last, last_logged, map_after, upto, AreNumbered, IsAt, IsPart};
-ghost use Rattle.mq_ledger.specs.Items.{end_of, next, below, IsEnd, item_at, descriptor_blocks};
+ghost use Rattle.mq_ledger.specs.Items.{end_of, next, below, IsEnd, item_at, further_blocks, descriptor_blocks};
 ghost use Rattle.mq_ledger.specs.Records.{own, from_of, HasPlace, LogsLast, IsClear, IsNextEnd, IsKnown, Every, IsTaken, IsOpen, start_ledger};
 ghost use Rattle.mq_ledger.specs.Records.{push_tx, settle_next};
 ghost use Rattle.mq_ledger.specs.Staged.{IsStaged};
@@ -20,12 +20,17 @@ use crate::latest::{Latest, Place, find, mark, numbered};
 use crate::queue_rows::{QueueEnd, QueueRows, Row, add_row};
 use crate::staging::{Staged, stage_entry};
 use crate::{Content, Tx};
-use mq_blocks::{BlockNo, Geometry, OutOfMemory, QueueNo, TxNo};
+use mq_blocks::{BlockNo, Geometry, OutOfMemory, QueueNo, TxNo, further_blocks};
 use std::alloc::Global;
 use std::marker::Model;
 
-/// The number of blocks of the journal area that a descriptor takes, each with an entry.
-pub const DESCRIPTOR_BLOCKS: u64 = 1;
+/// The number of blocks of the journal area that a transaction's descriptor takes, each with an entry.
+pub fn descriptor_blocks(tx: &Tx) -> u64
+    ensures { result ≡ descriptor_blocks tx.now }
+{
+    let listed = tx.logged.as_slice().len() + tx.revoked.as_slice().len();
+    further_blocks(listed as u64) + 1
+}
 
 /// The greatest number of a transaction.
 const LIMIT: u64 = 1 << 63;
@@ -79,17 +84,18 @@ fn empty_queue_rows(alloc: Global, queues: usize) -> Result<Vec<QueueRows>, OutO
 /// The row of a transaction that follows this row.
 fn row_after(before: Row, tx: &Tx) -> Row
     requires counts { before.end + (writes tx.now + descriptor_blocks tx.now) ≤ number_limit }
-    requires places { before.next + length tx.now.logged < 2 ^ 62 }
+    requires places { before.next + (length tx.now.logged + further_blocks tx.now) < 2 ^ 62 }
     ensures number { result.number ≡ tx.now.number }
     ensures end { result.end ≡ before.end + (writes tx.now + descriptor_blocks tx.now) }
     ensures next_is { result.next ≡ before.next + (length tx.now.logged + descriptor_blocks tx.now) }
 {
     let copies = tx.logged.as_slice().len() as u64;
     let direct = tx.direct.as_slice().len() as u64;
+    let blocks = descriptor_blocks(tx);
     Row {
         number: tx.number.0,
-        end: before.end + (copies + direct + DESCRIPTOR_BLOCKS),
-        next: before.next + (copies + DESCRIPTOR_BLOCKS),
+        end: before.end + (copies + direct + blocks),
+        next: before.next + (copies + blocks),
     }
 }
 

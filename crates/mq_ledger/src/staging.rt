@@ -1,8 +1,9 @@
 // What is staged for an entry.
-ghost use Rattle.std.specs.Prelude.{◌≡◌, ◌<◌, ◌≤◌, ◌+◌, ◌^◌, List, IfOk, length};
-ghost use Rattle.mq_blocks.specs.Descriptor.{descriptor_bytes};
+ghost use Rattle.std.specs.Prelude.{◌≡◌, ◌<◌, ◌≤◌, ◌+◌, ◌^◌, List, IfOk, length, true, false};
+ghost use Rattle.mq_blocks.specs.Limits.{newest_version};
+ghost use Rattle.mq_blocks.specs.Descriptor.{further_block, journal_form, last_block};
 ghost use Rattle.mq_ledger.specs.History.{blocks_of, writes};
-ghost use Rattle.mq_ledger.specs.Items.{item_of, descriptor_for};
+ghost use Rattle.mq_ledger.specs.Items.{item_of, descriptor_for, descriptor_blocks, further_blocks};
 ghost use Rattle.mq_ledger.specs.KnownJournal.{IsTx};
 ghost use Rattle.mq_ledger.specs.Plain.{plain_entry};
 ghost use Rattle.mq_ledger.specs.Staged.{IsStaged, IsBehind};
@@ -10,6 +11,7 @@ ghost use Rattle.mq_ledger.specs.declared.tx.Tx.{Tx as Record};
 
 use crate::content::copy_content;
 use crate::queue_rows::Row;
+use crate::records::descriptor_blocks;
 use crate::{Content, PlainEntry, Tx};
 use mq_area::{Descriptor, write_descriptor};
 use mq_blocks::{Block, BlockNo, Geometry, Lba, OutOfMemory, TxNo};
@@ -55,31 +57,44 @@ fn logged_blocks(alloc: Global, writes: &[(BlockNo, Content)]) -> Result<Vec<Blo
     Ok(blocks)
 }
 
-/// The block of a transaction's descriptor, if the queue before the transaction ends with this row.
-fn describe(alloc: Global, geometry: Geometry, tx: &Tx, before: Row) -> Result<Content, OutOfMemory>
+/// A block of a transaction's descriptor, if the queue before the transaction ends with this row: the
+/// last one, or the further one before it.
+fn describe(
+    alloc: Global,
+    geometry: Geometry,
+    tx: &Tx,
+    before: Row,
+    last: bool,
+) -> Result<Content, OutOfMemory>
     requires form { IsTx geometry tx.now }
-    requires places { before.next + length tx.now.logged < 2 ^ 62 }
+    requires places { before.next + (length tx.now.logged + further_blocks tx.now) < 2 ^ 62 }
     ensures { IfOk result (λ c. (txs : List Record)
         → IsBehind before txs
-        → c ≡ descriptor_bytes (descriptor_for tx.now txs)) }
+        → (last ≡ true → c ≡ last_block journal_form newest_version (descriptor_for tx.now txs))
+        × (last ≡ false → further_blocks tx.now ≡ 1
+        → c ≡ further_block journal_form newest_version (descriptor_for tx.now txs))) }
 {
     let logged = logged_blocks(alloc, tx.logged.as_slice())?;
     let descriptor = Descriptor {
         queue: tx.queue.0,
         number: tx.number.0,
-        place: before.next + logged.len() as u64,
+        place: before.next + (descriptor_blocks(tx) - 1 + logged.len() as u64),
         prev_place: before.next.saturating_sub(1),
         prev_number: before.number,
         logged,
         revoked: Vec::from_slice(alloc, tx.revoked.as_slice())?,
     };
     let mut block = Block::zeroed(alloc)?;
-    write_descriptor(&descriptor, &mut block);
-    Ok(Content(Vec::from_slice(alloc, block.bytes())?))
+    let mut further = Block::zeroed(alloc)?;
+    write_descriptor(&descriptor, &mut block, &mut further);
+    if last {
+        return Ok(Content(Vec::from_slice(alloc, block.bytes())?));
+    }
+    Ok(Content(Vec::from_slice(alloc, further.bytes())?))
 }
 
 /// What is staged for an entry of a transaction, if the queue before the transaction ends with this
-/// row. Its copies come first, then its direct writes, then its descriptor.
+/// row. Its copies come first, then its direct writes, then the blocks of its descriptor.
 pub fn stage_entry(
     alloc: Global,
     geometry: Geometry,
@@ -88,8 +103,8 @@ pub fn stage_entry(
     index: usize,
 ) -> Result<Staged, OutOfMemory>
     requires form { IsTx geometry tx.now }
-    requires places { before.next + length tx.now.logged < 2 ^ 62 }
-    requires index { index ≤ writes tx.now }
+    requires places { before.next + (length tx.now.logged + further_blocks tx.now) < 2 ^ 62 }
+    requires index { index < writes tx.now + descriptor_blocks tx.now }
     ensures { IfOk result (λ s. (txs : List Record)
         → IsBehind before txs
         → IsStaged geometry tx.now.queue (item_of tx.now txs index) s) }
@@ -107,7 +122,9 @@ pub fn stage_entry(
         let block = copy_content(alloc, &write.1)?;
         return Ok(Staged::new(tx.number, geometry.home(write.0), false, block));
     }
-    let lba = geometry.area_lba(tx.queue, before.next + copies as u64);
-    let block = describe(alloc, geometry, tx, before)?;
-    Ok(Staged::new(tx.number, lba, true, block))
+    let at = (index - copies - direct.len()) as u64;
+    let last = descriptor_blocks(tx) - 1 <= at;
+    let lba = geometry.area_lba(tx.queue, before.next + (copies as u64 + at));
+    let block = describe(alloc, geometry, tx, before, last)?;
+    Ok(Staged::new(tx.number, lba, last, block))
 }

@@ -1,6 +1,6 @@
 -- What a completion says of its command.
 use Rattle.std.proofs.Common.{◌≡◌, ◌<◌, ◌≤◌, ◌^◌, ◌%◌, ℕ, List, length, Bool, true, false, if◌then◌else◌, refl, ◌∙◌, arith}
-use Rattle.mq_blocks.specs.Drive.{depth}
+use Rattle.mq_blocks.specs.Limits.{depth}
 use Rattle.mq_nvme.specs.declared.completion.Ended.{Ended}
 use Rattle.mq_nvme.specs.Completion.{completion_of, status_of, identifier_of}
 use Rattle.mq_nvme.specs.Field.{place, get_field, bits_of}

@@ -1,6 +1,6 @@
 -- What entries are that are written field by field.
 use Rattle.std.proofs.Common.{◌≡◌, ◌<◌, ℕ, ◌+◌, ◌*◌, ◌/◌, ◌%◌, ◌^◌, [], ◌∷◌, Bool, true, false, not, if◌then◌else◌, refl, arith}
-use Rattle.mq_blocks.specs.Drive.{depth}
+use Rattle.mq_blocks.specs.Limits.{depth}
 use Rattle.mq_nvme.specs.Completion.{completion_of}
 use Rattle.mq_nvme.specs.Entry.{blank, entry_of}
 use Rattle.mq_nvme.specs.Field.{place, set_field, with_bits}

@@ -5,7 +5,8 @@ use Rattle.mq_nvme.specs.declared.completion.Ended.{Ended}
 -- the entry of a command that ended
 unfoldable pub completion_of : Ended → List ℕ
 completion_of x =
-    0 ∷ 0 ∷ (x.sq_head + 65536 * x.sq_id) ∷ (x.cid + 65536 * (if x.phase then 1 else 0) + 131072 * x.status) ∷ []
+    0 ∷ 0 ∷ (x.sq_head + 65536 * x.sq_id)
+    ∷ (x.cid + 65536 * (if x.phase then 1 else 0) + 131072 * x.status) ∷ []
 
 -- bits 15:0 of dword 3: the identifier of the command, which is its slot
 unfoldable pub identifier_of : List ℕ → ℕ

@@ -1,6 +1,6 @@
 -- Submission queue entries as lists of 16 dwords (NVM Express 1.4, "Submission Queue Entry").
 use Rattle.std.specs.Prelude.{◌≡◌, ◌<◌, ◌≤◌, ℕ, ◌+◌, ◌*◌, ◌/◌, ◌%◌, ◌^◌, List, [], ◌∷◌, ◌++◌, Bool, ◌==◌, ◌||◌, nat_lt, if◌then◌else◌, Option, Some, None, slice_index}
-use Rattle.mq_blocks.specs.Drive.{depth}
+use Rattle.mq_blocks.specs.Limits.{depth}
 use Rattle.mq_nvme.specs.declared.write.WriteReq.{WriteReq}
 use Rattle.mq_nvme.specs.declared.write.EntryRefusal.{EntryRefusal}
 use Rattle.mq_nvme.specs.declared.write.EntryRefusal.TheVariants.{Opcode, Namespace, Count, Flags}
@@ -13,7 +13,8 @@ blank = 0 ∷ 0 ∷ 0 ∷ 0 ∷ 0 ∷ 0 ∷ 0 ∷ 0 ∷ 0 ∷ 0 ∷ 0 ∷ 0 ∷ 
 unfoldable pub entry_of : WriteReq → List ℕ
 entry_of r =
     (1 + 65536 * r.slot) ∷ 1 ∷ (r.tx % 2 ^ 32) ∷ (r.tx / 2 ^ 32) ∷ 0 ∷ 0 ∷ (4096 * r.slot) ∷ 0 ∷ 0 ∷ 0
-    ∷ (r.lba % 2 ^ 32) ∷ (r.lba / 2 ^ 32) ∷ (2 ^ 30 + (if r.commit then 2 ^ 17 else 2 ^ 16)) ∷ 0 ∷ 0 ∷ 0 ∷ []
+    ∷ (r.lba % 2 ^ 32) ∷ (r.lba / 2 ^ 32) ∷ (2 ^ 30 + (if r.commit then 2 ^ 17 else 2 ^ 16)) ∷ 0 ∷ 0 ∷ 0
+    ∷ []
 
 -- the number of the transaction
 unfoldable pub tx_of : List ℕ → ℕ
@@ -87,7 +88,11 @@ common_rules =
 -- requests
 unfoldable pub command_rules : List Rule
 command_rules =
-    record { holds = λ e. (slice_index e 12 / 65536 == 2 ^ 14 + 1) || (slice_index e 12 / 65536 == 2 ^ 14 + 2); refusal = flags 12 }
+    record {
+      holds = λ e. (slice_index e 12 / 65536 == 2 ^ 14 + 1) ||
+          (slice_index e 12 / 65536 == 2 ^ 14 + 2);
+      refusal = flags 12;
+    }
     ∷ zero_at 13
     ∷ zero_at 14
     ∷ zero_at 15

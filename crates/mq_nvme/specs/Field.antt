@@ -39,4 +39,6 @@ IsOutside p dword bit = (dword ≢ p.dword) ⊎ ((bit < p.low) ⊎ (p.low + p.wi
 
 -- two entries agree in each bit that is none of the field's
 abbrev pub AreSameOutside : Place → List ℕ → List ℕ → Type 0
-AreSameOutside p e d = (dword bit : ℕ) → IsOutside p dword bit → bit_at (slice_index e dword) bit ≡ bit_at (slice_index d dword) bit
+AreSameOutside p e d =
+    (dword bit : ℕ) → IsOutside p dword bit
+    → bit_at (slice_index e dword) bit ≡ bit_at (slice_index d dword) bit

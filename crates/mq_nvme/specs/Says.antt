@@ -1,5 +1,7 @@
 -- What an entry says of the journal.
 use Rattle.std.specs.Prelude.{ℕ, List, Bool, Option, Some, None}
+use Rattle.mq_blocks.specs.Descriptor.{journal_form}
+use Rattle.mq_blocks.specs.Journal.{Reading}
 use Rattle.mq_nvme.specs.Entry.{tx_of, lba_of, is_commit, refusal_of}
 use Rattle.mq_nvme.specs.declared.write.EntryRefusal.{EntryRefusal}
 
@@ -11,3 +13,7 @@ said e (Some r) = None
 -- last; of any other bytes nothing
 unfoldable pub says : List ℕ → Option (ℕ × ℕ × Bool)
 says e = said e (refusal_of e)
+
+-- how the journal is read
+abbrev pub journal_reading : Reading
+journal_reading = record { says = says; form = journal_form }

@@ -1,6 +1,6 @@
 // Write commands.
 ghost use Rattle.std.specs.Prelude.{◌≡◌, ◌<◌, ◌≤◌, ◌↔◌, ◌==◌, ◌||◌, ◌+◌, ◌/◌, ◌%◌, ◌^◌, IfOk, None, slice_index};
-ghost use Rattle.mq_blocks.specs.Drive.{depth};
+ghost use Rattle.mq_blocks.specs.Limits.{depth};
 ghost use Rattle.mq_nvme.specs.Entry.{entry_of, request_of, flags, block_rules, common_rules, command_rules, first_refusal, refusal_of, IsWrite};
 
 use crate::fields::{

@@ -69,7 +69,8 @@ abbrev pub OthersSame : Option Held → Option Held → List ℕ → Type 0
 OthersSame None None name = Unit {0}
 OthersSame None (Some new) name = ⊥
 OthersSame (Some old) None name = ⊥
-OthersSame (Some old) (Some new) name = (other : List ℕ) → bytes_eq other name ≡ false → new other ≡ old other
+OthersSame (Some old) (Some new) name =
+    (other : List ℕ) → bytes_eq other name ≡ false → new other ≡ old other
 
 -- a load fails only where the faults rose, and they rise only where it fails
 abbrev pub LoadCause : {T : Type 0} → Result T LoadRefusal → ℕ → ℕ → Type 0
@@ -99,7 +100,8 @@ SaveCause (Err save.Failed) old new = Rose old new
 SaveCause (Err save.OutOfMemory) old new = new ≡ old
 
 -- a save puts the bytes, or fails and says nothing of this name alone, or leaves all as it was
-abbrev pub Saves : {T : Type 0} → Result T SaveRefusal → Option Held → Option Held → List ℕ → List ℕ → Type 0
+abbrev pub Saves : {T : Type 0} → Result T SaveRefusal → Option Held → Option Held → List ℕ → List ℕ
+    → Type 0
 Saves (Ok _) old new name bytes = new ≡ put_name old name bytes
 Saves (Err save.Failed) old new name bytes = OthersSame old new name
 Saves (Err save.OutOfMemory) old new name bytes = new ≡ old

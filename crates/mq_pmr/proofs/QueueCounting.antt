@@ -7,7 +7,8 @@ use Rattle.std.proofs.lemmas.Bool.Decides.{nat_tests}
 use Rattle.std.proofs.lemmas.List.{get_or-set_other, get_or-set_same}
 use Rattle.std.proofs.lemmas.List.Elements.{All-cons, All-rest}
 use Rattle.std.proofs.Math.Bool.{and-false}
-use Rattle.mq_blocks.specs.Drive.{AreFrom, depth}
+use Rattle.mq_blocks.specs.Drive.{AreFrom}
+use Rattle.mq_blocks.specs.Limits.{depth}
 use Rattle.mq_blocks.specs.declared.command.Command.{Command}
 use Rattle.mq_pmr.specs.Queue.{times, AreNamed}
 use Rattle.mq_pmr.specs.Rungs.{are_from}

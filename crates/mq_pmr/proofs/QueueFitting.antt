@@ -7,7 +7,8 @@ use Rattle.std.proofs.lemmas.Bool.{cases_eq, cases_lt}
 use Rattle.std.proofs.lemmas.List.{get_or-set_other, get_or-set_same}
 use Rattle.std.proofs.lemmas.List.Elements.{All-cons, All-append}
 use Rattle.std.proofs.Math.Bool.{and-false}
-use Rattle.mq_blocks.specs.Drive.{PortState, AreFrom, depth, usable_depth, staged_end, after_stage, after_ring, after_done, after_failed, after_begin, after_end}
+use Rattle.mq_blocks.specs.Drive.{PortState, AreFrom, staged_end, after_stage, after_ring, after_done, after_failed, after_begin, after_end}
+use Rattle.mq_blocks.specs.Limits.{depth, usable_depth}
 use Rattle.mq_blocks.specs.declared.command.Command.{Command}
 use Rattle.mq_blocks.specs.declared.command.HomeWrite.{HomeWrite}
 use Rattle.mq_blocks.proofs.DriveRemainders.{slots_apart}

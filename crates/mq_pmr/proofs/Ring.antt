@@ -3,7 +3,8 @@ use Rattle.std.proofs.Common.{◌≡◌, ◌≢◌, ◌<◌, ◌≤◌, inl, inr
 use Rattle.std.specs.Prelude.{nat_eq, if◌then◌else◌}
 use Rattle.std.proofs.lemmas.Bool.{cases_eq, eq-eqb, ne_eqb}
 use Rattle.std.proofs.lemmas.List.{get_or-set_other, get_or-set_same}
-use Rattle.mq_blocks.specs.Drive.{PortState, IsFlushed, depth, usable_depth, staged_end, after_stage, after_flush, after_ring, after_store_head, after_begin, after_end}
+use Rattle.mq_blocks.specs.Drive.{PortState, IsFlushed, staged_end, after_stage, after_flush, after_ring, after_store_head, after_begin, after_end}
+use Rattle.mq_blocks.specs.Limits.{depth, usable_depth}
 use Rattle.mq_blocks.specs.declared.geometry.Geometry.{Geometry}
 use Rattle.mq_blocks.proofs.DriveRemainders.{slots_apart}
 use Rattle.mq_nvme.specs.Entry.{entry_of, tx_of, lba_of}

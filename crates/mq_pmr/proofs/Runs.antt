@@ -3,7 +3,8 @@ use Rattle.std.proofs.Common.{◌≡◌, ◌≢◌, ◌<◌, ◌≤◌, ◌-◌,
 use Rattle.std.proofs.lemmas.List.{append-nil}
 use Rattle.std.proofs.lemmas.Bool.Decides.{nat_tests}
 use Rattle.std.specs.Prelude.{◌==◌}
-use Rattle.mq_blocks.specs.Drive.{PortState, counted, depth, usable_depth, staged_end, after_stage, Owns}
+use Rattle.mq_blocks.specs.Drive.{PortState, counted, staged_end, after_stage, Owns}
+use Rattle.mq_blocks.specs.Limits.{depth, usable_depth}
 use Rattle.mq_blocks.specs.declared.command.Command.{Command}
 use Rattle.mq_pmr.specs.Runs.{Items, OwnsAll, entry_at, slots_with, commands_of, after_some, is_last}
 

@@ -4,7 +4,8 @@ use Rattle.std.proofs.lemmas.Bool.{cases_eq}
 use Rattle.std.proofs.lemmas.List.{get_or-set_other, get_or-set_same}
 use Rattle.std.proofs.lemmas.List.Elements.{All-cons, All-rest, All-append}
 use Rattle.std.specs.Prelude.{slice_get, Result, Ok, Err}
-use Rattle.mq_blocks.specs.Drive.{PortState, depth, usable_depth, staged_end, after_stage, after_ring, after_done, after_failed}
+use Rattle.mq_blocks.specs.Drive.{PortState, staged_end, after_stage, after_ring, after_done, after_failed}
+use Rattle.mq_blocks.specs.Limits.{depth, usable_depth}
 use Rattle.mq_blocks.specs.declared.command.Command.{Command}
 use Rattle.mq_nvme.specs.Entry.{entry_of, lba_of, is_commit}
 use Rattle.mq_nvme.proofs.EntryRequests.{lba_of-entry, is_commit-entry}
@@ -59,7 +60,7 @@ written_staged s k entry tx lba block fits room new w =
     let to : List (List ℕ) = set s.staged (staged_end s % depth) entry in
     let at : k.end ≡ staged_end s = fits.end in
     let low : k.done.end ≤ k.end = omega (arith, at, fits.done, fits.passed) in
-    let near : k.end ≤ k.done.end + 1022 = omega (arith, room, fits.heads, fits.stored) in
+    let near : k.end < k.done.end + usable_depth = omega (arith, room, fits.heads, fits.stored) in
     let apart : (n : ℕ) → k.done.end ≤ n → n < k.end → n % depth ≢ k.end % depth = λ n least less.
     other_slots k.done.end n k.end least low (omega (arith, less, near)) (omega (arith, near)) (λ same. omega (arith, same, less)) in
     let away : (n : ℕ) → k.done.end ≤ n → n < k.end → n % depth ≢ staged_end s % depth = λ n least less same.

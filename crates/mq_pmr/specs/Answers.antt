@@ -1,6 +1,7 @@
 -- What the answer of a step means.
 use Rattle.std.specs.Prelude.{◌≡◌, ◌≢◌, ℕ, ◌%◌, List, [], Result, Ok, Err, Some, slice_get}
-use Rattle.mq_blocks.specs.Drive.{PortState, after_done, after_failed, depth}
+use Rattle.mq_blocks.specs.Drive.{PortState, after_done, after_failed}
+use Rattle.mq_blocks.specs.Limits.{depth}
 use Rattle.mq_blocks.specs.declared.command.Command.{Command}
 use Rattle.mq_drive.specs.Steps.{PortFault, PowerOff, CommandError, Gains}
 use Rattle.mq_drive.specs.declared.port.Off.{Off}
@@ -26,5 +27,6 @@ pub record EndsBadly (old : PortState) (tx : ℕ) (new : PortState) : Type 0 whe
 abbrev pub TookGives : PortState → List PortFault → Result Took Off → PortState → List PortFault → Type 0
 TookGives old faults (Ok Idle) new more = (old.posted ≡ []) × (new ≡ old) × (more ≡ faults)
 TookGives old faults (Ok (One slot)) new more = EndsWell old slot new × (more ≡ faults)
-TookGives old faults (Ok (Bad tx status)) new more = EndsBadly old tx new × (status ≢ 0) × Gains (CommandError tx status) faults more
+TookGives old faults (Ok (Bad tx status)) new more =
+    EndsBadly old tx new × (status ≢ 0) × Gains (CommandError tx status) faults more
 TookGives old faults (Err _) new more = (old.posted ≢ []) × (new ≡ old) × Gains PowerOff faults more

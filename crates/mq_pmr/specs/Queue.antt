@@ -1,6 +1,7 @@
 -- What a queue keeps, and how it stands to its port.
 use Rattle.std.specs.Prelude.{◌≡◌, ◌<◌, ◌≤◌, ℕ, ◌+◌, ◌%◌, Bool, true, false, List, [], ◌∷◌, All, length, IsSome, Option, Some, nat_eq, if◌then◌else◌}
-use Rattle.mq_blocks.specs.Drive.{PortState, depth, usable_depth, staged_end, after_flush, after_store_head}
+use Rattle.mq_blocks.specs.Drive.{PortState, staged_end, after_flush, after_store_head}
+use Rattle.mq_blocks.specs.Limits.{depth, usable_depth}
 use Rattle.mq_blocks.specs.declared.command.Command.{Command}
 use Rattle.mq_blocks.specs.declared.geometry.Geometry.{Geometry}
 use Rattle.mq_drive.specs.Start.{IsPortOf}

@@ -46,7 +46,8 @@ pub record TellsDone (passes : ℕ → Bool) (limit : ℕ) (slots : List SlotRec
   pub no : (end n : ℕ) → end ≤ limit → from ≤ n → n < end → done_at slots n ≡ false → passes end ≡ false
 
 -- From a count and transactions up to a limit, those that lead and are done are passed.
-pub record Walks (slots : List SlotRecord) (limit from : ℕ) (last : Rung) (ts : List Rung) (to : ℕ) (new : Rung) (left : List Rung) : Type 0 where
+pub record Walks (slots : List SlotRecord) (limit from : ℕ) (last : Rung) (ts : List Rung) (to : ℕ)
+    (new : Rung) (left : List Rung) : Type 0 where
   pub up : from ≤ to
   pub all : AllDone slots from to
   pub high : to ≤ limit

@@ -1,6 +1,7 @@
 -- What the staging of a transaction makes of a queue's port.
 use Rattle.std.specs.Prelude.{ℕ, ◌+◌, ◌%◌, zero, suc, Bool, true, false, List, [], ◌∷◌, ◌++◌, slice_set}
-use Rattle.mq_blocks.specs.Drive.{PortState, Owns, counted, depth, staged_end}
+use Rattle.mq_blocks.specs.Drive.{PortState, Owns, counted, staged_end}
+use Rattle.mq_blocks.specs.Limits.{depth}
 use Rattle.mq_blocks.specs.declared.command.Command.{Command}
 use Rattle.mq_nvme.specs.Entry.{entry_of}
 
@@ -20,13 +21,15 @@ entry_at tx at lba rest = entry_of record { tx = tx; slot = at % depth; lba = lb
 abbrev pub slots_with : List (List ℕ) → ℕ → ℕ → ℕ → Items → List (List ℕ)
 slots_with slots tx at zero items = slots
 slots_with slots tx at (suc k) [] = slots
-slots_with slots tx at (suc k) (i ∷ is) = slots_with (slice_set slots (at % depth) (entry_at tx at i.0 is)) tx (at + 1) k is
+slots_with slots tx at (suc k) (i ∷ is) =
+    slots_with (slice_set slots (at % depth) (entry_at tx at i.0 is)) tx (at + 1) k is
 
 -- its first k commands
 abbrev pub commands_of : ℕ → ℕ → ℕ → Items → List Command
 commands_of tx at zero items = []
 commands_of tx at (suc k) [] = []
-commands_of tx at (suc k) (i ∷ is) = record { count = at; tx = tx; lba = i.0; block = i.1 } ∷ commands_of tx (at + 1) k is
+commands_of tx at (suc k) (i ∷ is) =
+    record { count = at; tx = tx; lba = i.0; block = i.1 } ∷ commands_of tx (at + 1) k is
 
 -- the first k items of a transaction are staged
 abbrev pub after_some : PortState → ℕ → ℕ → Items → PortState

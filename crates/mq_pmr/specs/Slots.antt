@@ -1,6 +1,6 @@
 -- What a queue notes of the entries in its slots.
 use Rattle.std.specs.Prelude.{◌≡◌, ◌<◌, ◌≤◌, ℕ, ◌%◌, Bool, true, false, List, slice_index_or}
-use Rattle.mq_blocks.specs.Drive.{depth}
+use Rattle.mq_blocks.specs.Limits.{depth}
 use Rattle.mq_pmr.specs.declared.slots.SlotRecord.{SlotRecord}
 
 -- what is noted of an entry before there is one

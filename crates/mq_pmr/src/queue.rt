@@ -1,8 +1,9 @@
 // A queue in persistent memory.
 ghost use Rattle.std.specs.Prelude.{◌≡◌, ◌≢◌, ◌⊎◌, ◌<◌, ◌≤◌, ◌+◌, ◌-◌, ◌%◌, ◌++◌, ℕ, List, [], ◌∷◌, length, OnOk, OnErr};
+ghost use Rattle.mq_blocks.specs.Limits.{depth, usable_depth};
 ghost use Rattle.std.specs.Prelude.{IfOk, IfErr, IsSome, Some, None, slice_index_or, reverse, if◌then◌else◌};
 ghost use Rattle.std.specs.VecDeque.{deque_capacity};
-ghost use Rattle.mq_blocks.specs.Drive.{PortState, IsHome, Owns, staged_end, after_stage, after_flush, after_ring, after_store_head, depth, usable_depth};
+ghost use Rattle.mq_blocks.specs.Drive.{PortState, IsHome, Owns, staged_end, after_stage, after_flush, after_ring, after_store_head};
 ghost use Rattle.mq_blocks.specs.Journal.{number_limit};
 ghost use Rattle.mq_drive.specs.Start.{IsPortOf};
 ghost use Rattle.mq_drive.specs.Steps.{OffCause, HomeGives};

@@ -1,8 +1,8 @@
 // Walks over the slots and the transactions of a ring, each slot once.
 ghost use Rattle.std.specs.Prelude.{◌≡◌, ◌<◌, ◌≤◌, ◌+◌, ◌%◌, ◌++◌, ◌∷◌, [], ℕ, Bool, true, false, length, vec_len, slice_set, drop};
+ghost use Rattle.mq_blocks.specs.Limits.{depth};
 ghost use Rattle.std.specs.Option.{option_to_list};
 ghost use Rattle.std.specs.VecDeque.{deque_len, deque_capacity};
-ghost use Rattle.mq_blocks.specs.Drive.{depth};
 ghost use Rattle.mq_pmr.specs.Slots.{tx_in, done_at, AllDone};
 ghost use Rattle.mq_pmr.specs.Rungs.{AreEnds, Walks};
 

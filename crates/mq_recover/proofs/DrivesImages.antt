@@ -2,9 +2,10 @@
 -- one cause for which it is refused.
 use Rattle.std.proofs.Common.{◌≡◌, ◌<◌, ◌≤◌, ◌⊎◌, inl, inr, ℕ, ◌+◌, ◌^◌, List, [], ◌∷◌, length, Option, None, refl, sym, ◌∙◌, ap, subst, arith, get_or}
 use Rattle.std.proofs.lemmas.Bool.{cases_eq, cases_lt}
-use Rattle.std.specs.Prelude.{IsErrOf, Err, slice_index_or}
+use Rattle.std.specs.Prelude.{IfOk, IfErr, IsErrOf, Result, Ok, Err, slice_index_or}
+use Rattle.mq_ledger.proofs.Written.{form_sound}
 use Rattle.mq_blocks.specs.Blocks.{block_at}
-use Rattle.mq_blocks.specs.Descriptor.{Descriptor}
+use Rattle.mq_blocks.specs.Descriptor.{Descriptor, IsReadOnce, journal_form}
 use Rattle.mq_blocks.specs.Drive.{PortImage}
 use Rattle.mq_blocks.specs.Geometry.{homes_of}
 use Rattle.mq_blocks.specs.Journal.{Shown, IsQueueChain, Has, AreWhole, AreInRow, IsPrefix, Reaches, ShowsNumber, number_limit}
@@ -13,19 +14,21 @@ use Rattle.mq_nvme.specs.Says.{says}
 use Rattle.mq_ledger.specs.State.{port_at}
 use Rattle.mq_ledger.proofs.JournalChains.{queue-chain-once}
 use Rattle.mq_recover.specs.Drives.{DriveState, view_over}
-use Rattle.mq_recover.specs.Ends.{chain_at}
-use Rattle.mq_recover.specs.Plans.{AreChains, ArePlaced, AreRead, IsFoundIn}
-use Rattle.mq_recover.specs.Recover.{IsSeenAt, AreFalling}
+use Rattle.mq_recover.specs.Recover.{chain_at, IsSeenAt, AreFalling}
+use Rattle.mq_recover.specs.Merges.{HasNumber, IsTwice, RefusesTwice}
+use Rattle.mq_recover.specs.Queues.{AreChains, AreChainsRead, AreRead, RefusesReading}
+use Rattle.mq_recover.specs.Choices.{run_of, IsChosen, IsFoundIn}
 use Rattle.mq_recover.specs.Recovery.{IsReadPrefix}
-use Rattle.mq_recover.specs.Refusals.{IsReadable, AreReadable, HasNumber, IsTwice, IsReadableImage, RefusesQueue, RefusesSome, RefusesTwice, RefusesImage}
-use Rattle.mq_recover.specs.declared.copies.Copies.{Copies}
-use Rattle.mq_recover.specs.declared.copies.CopyPlace.{CopyPlace}
-use Rattle.mq_recover.specs.declared.plan.Found.{Found}
-use Rattle.mq_recover.specs.declared.plan.QueuesRead.{QueuesRead}
+use Rattle.mq_recover.specs.Refusals.{IsReadable, AreReadable, RefusesQueue, RefusesSome}
+use Rattle.mq_recover.specs.Images.{IsReadableImage, RefusesImage}
+use Rattle.mq_recover.specs.declared.choice.Chosen.{Chosen}
+use Rattle.mq_recover.specs.declared.choice.Found.{Found}
+use Rattle.mq_recover.specs.declared.queues.QueuesRead.{QueuesRead}
 use Rattle.mq_recover.specs.declared.refusal.ChainRefusal.{ChainRefusal}
 use Rattle.mq_recover.specs.declared.refusal.ImageFault.{ImageFault}
 use Rattle.mq_recover.specs.declared.refusal.ImageFault.TheVariants.{Bad, Limit, Twice, OutOfMemory}
-use Rattle.mq_recover.proofs.PlansPopped.{falls-under}
+use Rattle.mq_recover.proofs.Merges.{falls-under}
+use Rattle.mq_recover.proofs.Choices.{run-good, run-greatest, run-has, run-row}
 use Rattle.mq_recover.proofs.RecoverReadable.{readable-shown, shown-readable, chain-falls}
 use Rattle.mq_recover.proofs.RecoverCopies.{chain-of, chain-good}
 use Rattle.mq_recover.proofs.Refusals.{readable-refused, readable-once, refuses-queue-once}
@@ -37,6 +40,7 @@ pub view-seen : (g : Geometry) (d : DriveState) (q base : ℕ) → base ≡ d.ro
 view-seen g d q base is =
     let at = image-at d.queues q in
     record {
+      form_is = refl;
       base_is = sym is;
       head_is = ap (λ (i : PortImage). i.head) at;
       doorbell_is = ap (λ (i : PortImage). i.doorbell) at;
@@ -63,55 +67,74 @@ good-chains g d read base base_is are =
     let few = g.queues_high in
     record {
       few = omega (arith, count, few);
-      good = λ q low. let c = queue-chain g d q (chain_at read.chains.items q) (are.readable q (within q low)) in chain-good g (view_over g d) q c.number c.place (chain_at read.chains.items q) c.chain;
+      good = λ q low. let c = queue-chain g d q (chain_at read.chains.items q) (are.readable q (within q low)) in chain-good g (view_over g d) q c.number c.place (chain_at read.chains.items q) refl c.chain;
       falling = λ q low. subst (λ (n : ℕ). AreFalling n (2 ^ 64) (chain_at read.chains.items q)) (sym base_is) (queue-falls g d q (chain_at read.chains.items q) (are.readable q (within q low)));
       own = λ q low. let c = queue-chain g d q (chain_at read.chains.items q) (are.readable q (within q low)) in chain-of g (view_over g d) q c.number c.place (chain_at read.chains.items q) c.chain;
     }
 
-image-read : (g : Geometry) (d : DriveState) (read : QueuesRead) (base : ℕ) (c : Copies) → base ≡ d.root.base → base ≤ number_limit → AreRead g d read → (p : ArePlaced (homes_of g) base read.chains.items c) → IsReadPrefix g (view_over g d) p.ds read.top
-image-read g d read base c base_is limit are p =
+pub queues-good : (g : Geometry) (d : DriveState) (r : Result QueuesRead ImageFault) → IfOk r (AreRead g d) → IfOk r (λ read. AreChains (homes_of g) d.root.base read.chains.items)
+queues-good g d (Ok read) are = good-chains g d read d.root.base refl are
+queues-good g d (Err e) are = tt
+
+image-read : (g : Geometry) (d : DriveState) (read : QueuesRead) (base : ℕ) (c : Chosen) → base ≡ d.root.base → AreChainsRead g d read → (p : IsChosen (homes_of g) base read.chains.items c) → IsReadPrefix g (view_over g d) (run_of base p.merged) read.top
+image-read g d read base c base_is all p =
     let i = view_over g d in
+    let are = all.queues in
+    let merged = p.are_merged in
     let count = are.count in
     let chains = chain_at read.chains.items in
     let whole : AreWhole g i chains = record {
-      limit = omega (arith, limit, base_is);
+      limit = all.limit;
       each = λ q low. queue-chain g d q (chains q) (are.readable q low);
-      once = λ q r low lower other a b in_q in_r. p.once q r (omega (arith, count, low)) (omega (arith, count, lower)) other a b in_q in_r;
+      once = λ q r low lower other a b in_q in_r. merged.once q r (omega (arith, count, low)) (omega (arith, count, lower)) other a b in_q in_r;
     } in
     record {
+      form_is = refl;
       chains = chains;
       whole = whole;
       prefix = record {
-        row = subst (λ (n : ℕ). AreInRow n p.ds) base_is p.row;
-        whole = λ x has. let at = p.from_chains x has in let low = at.0 in (omega (arith, count, low), at.1);
-        greatest = λ q x low has same. p.greatest q x (omega (arith, count, low)) has (omega (arith, same, base_is));
+        row = subst (λ (n : ℕ). AreInRow n (run_of base p.merged)) base_is (run-row base p.merged);
+        whole = λ x has. let at = merged.from_chains x (run-has base p.merged x has) in let low = at.0 in (omega (arith, count, low), at.1);
+        greatest = λ q x low has same. run-greatest base (2 ^ 64) p.merged x merged.falling (merged.every q x (omega (arith, count, low)) has) (omega (arith, same, base_is));
       };
       top_is = record { whole = whole; shown = are.top.shown; greatest = are.top.greatest };
     }
 
-pub found-in : (g : Geometry) (d : DriveState) (base : ℕ) (read : QueuesRead) (c : Copies) (found : Found) → base ≡ d.root.base → base ≤ number_limit → AreRead g d read → ArePlaced (homes_of g) base read.chains.items c
-    → found.places.items ≡ c.places.items → found.recovered.prefix ≡ c.prefix → found.recovered.base ≡ read.top → IsFoundIn g d found
-found-in g d base read c found base_is limit are p items prefix_is top_is = record {
-  ds = p.ds;
-  read = subst (IsReadPrefix g (view_over g d) p.ds) (sym top_is) (image-read g d read base c base_is limit are p);
-  whole = ap length items ∙ p.whole;
-  places_are = λ x. ap (λ (l : List (Option CopyPlace)). get_or l x None) items ∙ p.places_are x;
-  prefix_is = prefix_is ∙ p.prefix_is;
-}
+pub found-in : (g : Geometry) (d : DriveState) (base : ℕ) (read : QueuesRead) (c : Chosen) (found : Found) → base ≡ d.root.base → AreChainsRead g d read → IsChosen (homes_of g) base read.chains.items c
+    → found.copies.items ≡ c.copies.items → found.recovered.prefix ≡ c.prefix → found.recovered.base ≡ read.top → IsFoundIn g d found
+found-in g d base read c found base_is all p items prefix_is top_is =
+    let merged = p.are_merged in
+    let count = all.queues.count in
+    record {
+      ds = run_of base p.merged;
+      read = subst (IsReadPrefix g (view_over g d) (run_of base p.merged)) (sym top_is) (image-read g d read base c base_is all p);
+      copies_are = record {
+        own = λ x has. let at = merged.from_chains x (run-has base p.merged x has) in let low = at.0 in omega (arith, count, low);
+        good = run-good (homes_of g) base p.merged merged.good;
+        are = items ∙ p.copies_are;
+      };
+      prefix_is = prefix_is ∙ p.prefix_is;
+    }
 
 -- ---- why an image is refused
 
-pub some-refused : (g : Geometry) (d : DriveState) (e : ImageFault) → d.root.base ≤ number_limit → RefusesSome g d e → RefusesImage g d e
+pub some-refused : (g : Geometry) (d : DriveState) (e : ImageFault) → d.root.base ≤ number_limit → RefusesSome g d e → RefusesReading g d e
 some-refused g d (Bad q cause) limit r = (limit, r)
 some-refused g d (Limit n) limit r = absurd r
 some-refused g d (Twice n a b) limit r = absurd r
 some-refused g d OutOfMemory limit r = r
 
-pub twice-refused : (g : Geometry) (d : DriveState) (read : QueuesRead) (e : ImageFault) → d.root.base ≤ number_limit → AreRead g d read → RefusesTwice read.chains.items e → RefusesImage g d e
-twice-refused g d read (Twice n a b) limit are r = (limit, chain_at read.chains.items, are.readable, subst (λ (k : ℕ). IsTwice k (chain_at read.chains.items) n a b) are.count r)
-twice-refused g d read (Bad q cause) limit are r = absurd r
-twice-refused g d read (Limit n) limit are r = absurd r
-twice-refused g d read OutOfMemory limit are r = r
+pub reading-refused : (g : Geometry) (d : DriveState) (e : ImageFault) → RefusesReading g d e → RefusesImage g d e
+reading-refused g d (Bad q cause) r = r
+reading-refused g d (Limit n) r = r
+reading-refused g d (Twice n a b) r = absurd r
+reading-refused g d OutOfMemory r = r
+
+pub twice-refused : (g : Geometry) (d : DriveState) (read : QueuesRead) (e : ImageFault) → AreChainsRead g d read → RefusesTwice read.chains.items e → RefusesImage g d e
+twice-refused g d read (Twice n a b) all r = (all.limit, chain_at read.chains.items, all.queues.readable, subst (λ (k : ℕ). IsTwice k (chain_at read.chains.items) n a b) all.queues.count r)
+twice-refused g d read (Bad q cause) all r = absurd r
+twice-refused g d read (Limit n) all r = absurd r
+twice-refused g d read OutOfMemory all r = r
 
 -- ---- one cause at most
 
@@ -247,13 +270,28 @@ err-exact A g d f e given r = elim given [
   | inr x ↦ inl (ap (λ (z : ImageFault). Err z) (refuses-image-once g d f e x r))
 ]
 
+-- chains that were read have no cause for which they can't be
+reading-apart : (g : Geometry) (d : DriveState) (read : QueuesRead) (e : ImageFault) → AreChainsRead g d read → RefusesReading g d e → ⊥
+reading-apart g d read (Limit base) are r = let l = are.limit in let is = r.0 in let high = r.1 in absurd (omega (arith, l, is, high))
+reading-apart g d read (Bad q cause) are r = readable-refused g (port_at d.queues q) q d.root.base (chain_at read.chains.items q) cause (are.queues.readable q r.1.0) r.1.3
+reading-apart g d read (Twice n a b) are r = r
+reading-apart g d read OutOfMemory are r = r
+
+pub queues-exact : (g : Geometry) (d : DriveState) (r : Result QueuesRead ImageFault) → d.root.base ≤ number_limit → IfOk r (AreRead g d) → IfErr r (λ e. (e ≡ OutOfMemory) ⊎ RefusesSome g d e)
+    → (e : ImageFault) → RefusesReading g d e → IsErrOf r e ⊎ IsErrOf r OutOfMemory
+queues-exact g d (Ok read) limit ok bad e refuses = absurd (reading-apart g d read e (record { limit = limit; queues = ok }) refuses)
+queues-exact g d (Err f) limit ok bad e refuses = elim bad [
+  | inl x ↦ inr (ap (λ (z : ImageFault). Err z) x)
+  | inr x ↦ inl (ap (λ (z : ImageFault). Err z) (refuses-image-once g d f e (reading-refused g d f (some-refused g d f limit x)) (reading-refused g d e refuses)))
+]
+
 -- ---- one prefix and one top
 
 record AreSame (g : Geometry) (chains others : ℕ → List Descriptor) : Type 0 where
   along : (q : ℕ) (d : Descriptor) → q < g.queues → Has (chains q) d → Has (others q) d
 
-same-chains : (g : Geometry) (i : Shown) (chains others : ℕ → List Descriptor) → AreWhole g i chains → AreWhole g i others → AreSame g chains others
-same-chains g i chains others a b = record { along = λ q d low has. subst (λ (l : List Descriptor). Has l d) (queue-chain-once g i q (chains q) (others q) (a.each q low) (b.each q low)) has }
+same-chains : (g : Geometry) (i : Shown) (chains others : ℕ → List Descriptor) → i.form ≡ journal_form → AreWhole g i chains → AreWhole g i others → AreSame g chains others
+same-chains g i chains others form a b = record { along = λ q d low has. subst (λ (l : List Descriptor). Has l d) (queue-chain-once g i q (chains q) (others q) (subst IsReadOnce (sym form) form_sound.read) (a.each q low) (b.each q low)) has }
 
 shows-along : (g : Geometry) (i : Shown) (chains others : ℕ → List Descriptor) (n : ℕ) → AreSame g chains others → ShowsNumber g i chains n → ShowsNumber g i others n
 shows-along g i chains others n same s = elim s.where_from [
@@ -318,10 +356,10 @@ rows-same base (d ∷ ds) (e ∷ es) a b long once =
     λ k. head k ∷ tail k
 
 -- An image has one prefix.
-pub reaches-same : (g : Geometry) (i : Shown) (ds es : List Descriptor) → Reaches g i ds → Reaches g i es → ds ≡ es
-reaches-same g i ds es a b =
-    let there = same-chains g i a.chains b.chains a.whole b.whole in
-    let back = same-chains g i b.chains a.chains b.whole a.whole in
+pub reaches-same : (g : Geometry) (i : Shown) (ds es : List Descriptor) → i.form ≡ journal_form → Reaches g i ds → Reaches g i es → ds ≡ es
+reaches-same g i ds es form a b =
+    let there = same-chains g i a.chains b.chains form a.whole b.whole in
+    let back = same-chains g i b.chains a.chains form b.whole a.whole in
     let long : length ds ≡ length es = elim (cases_lt (length ds) (length es)) [
       | inl low ↦ absurd (row-short g i a.chains b.chains ds es back a.prefix b.prefix low)
       | inr high ↦ elim (cases_lt (length es) (length ds)) [
@@ -336,10 +374,10 @@ reaches-same g i ds es a b =
 -- An image has one top.
 pub read-same : (g : Geometry) (i : Shown) (ds es : List Descriptor) (top other : ℕ) → IsReadPrefix g i ds top → IsReadPrefix g i es other → (ds ≡ es) × (top ≡ other)
 read-same g i ds es top other a b =
-    let there = same-chains g i a.chains b.chains a.whole b.whole in
-    let back = same-chains g i b.chains a.chains b.whole a.whole in
+    let there = same-chains g i a.chains b.chains a.form_is a.whole b.whole in
+    let back = same-chains g i b.chains a.chains a.form_is b.whole a.whole in
     let x = b.top_is.greatest top (shows-along g i a.chains b.chains top there a.top_is.shown) in
     let y = a.top_is.greatest other (shows-along g i b.chains a.chains other back b.top_is.shown) in (
-      reaches-same g i ds es (read-reaches g i ds top a) (read-reaches g i es other b),
+      reaches-same g i ds es a.form_is (read-reaches g i ds top a) (read-reaches g i es other b),
       omega (arith, x, y),
     )

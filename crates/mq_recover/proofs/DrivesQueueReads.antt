@@ -4,22 +4,22 @@ use Rattle.std.proofs.lemmas.Bool.{cases_eq}
 use Rattle.std.proofs.lemmas.List.{length-append, length-map, get_or_append_left}
 use Rattle.std.proofs.Math.Seq.{get_or-append_seam}
 use Rattle.mq_blocks.specs.Descriptor.{Descriptor}
-use Rattle.mq_blocks.specs.Drive.{PortState, depth}
+use Rattle.mq_blocks.specs.Limits.{depth}
+use Rattle.mq_blocks.specs.Drive.{PortState}
 use Rattle.mq_blocks.specs.Journal.{Shown, WriteFields, Has}
 use Rattle.mq_blocks.specs.declared.geometry.Geometry.{Geometry}
 use Rattle.mq_ledger.specs.State.{port_at}
 use Rattle.mq_recover.specs.Drives.{DriveState, IsQuiescentDrive, states, view_over}
-use Rattle.mq_recover.specs.Ends.{chain_at}
-use Rattle.mq_recover.specs.Plans.{AreRead, newest_number}
-use Rattle.mq_recover.specs.Recover.{AreFalling}
+use Rattle.mq_recover.specs.Recover.{chain_at, AreFalling}
+use Rattle.mq_recover.specs.Queues.{AreRead, newest_number}
 use Rattle.mq_recover.specs.Refusals.{IsReadable, IsGreatest, AreReadable, RefusesQueue, RefusesSome}
-use Rattle.mq_recover.specs.declared.plan.QueuesRead.{QueuesRead}
+use Rattle.mq_recover.specs.declared.queues.QueuesRead.{QueuesRead}
 use Rattle.mq_recover.specs.declared.refusal.ChainRefusal.{ChainRefusal}
 use Rattle.mq_recover.specs.declared.refusal.ChainRefusal.TheVariants as chain
 use Rattle.mq_recover.specs.declared.refusal.ImageFault.{ImageFault}
 use Rattle.mq_recover.specs.declared.refusal.ImageFault.TheVariants.{Bad, OutOfMemory}
 use Rattle.mq_recover.proofs.DrivesImages.{view-seen, queue-falls}
-use Rattle.mq_recover.proofs.PlansPopped.{falls-under}
+use Rattle.mq_recover.proofs.Merges.{falls-under}
 use Rattle.mq_recover.proofs.DrivesPortRows.{state-at}
 
 -- the state of a port that was read from these

@@ -2,7 +2,7 @@
 use Rattle.std.proofs.Common.{◌≡◌, ◌<◌, ◌⊎◌, inl, inr, ⊎_elim, ℕ, ◌+◌, true, false, List, [], ◌∷◌, length, Option, Some, None, get_or, refl, sym, ◌∙◌, ap, arith}
 use Rattle.std.proofs.lemmas.Bool.{cases_lt}
 use Rattle.std.proofs.lemmas.List.{get_or_past}
-use Rattle.mq_nvme.specs.Says.{says}
+use Rattle.mq_nvme.specs.Says.{says, journal_reading}
 use Rattle.mq_blocks.specs.Blocks.{block_at}
 use Rattle.mq_blocks.specs.Descriptor.{Descriptor}
 use Rattle.mq_blocks.specs.Drive.{PortState, PortImage, IsImage, IsApartFrom}
@@ -16,9 +16,9 @@ use Rattle.mq_ledger.specs.State.{port_at}
 use Rattle.mq_drive.specs.Start.{area_size_of}
 use Rattle.mq_recover.specs.Drives.{DriveState, IsQuiescentDrive, AreImages, view_over}
 use Rattle.mq_recover.specs.Recovery.{IsReadPrefix, StandsAs}
-use Rattle.mq_recover.specs.Recover.{content_of}
+use Rattle.mq_recover.specs.Copies.{content_of}
 use Rattle.mq_recover.specs.RecoverHomes.{written}
-use Rattle.mq_recover.specs.Steps.{AreHomeWrites}
+use Rattle.mq_recover.specs.Events.{AreHomeWrites}
 use Rattle.mq_recover.proofs.RecoveryCutImages.{IsSameLog, AreSameHeads, AreMovedHeads, read-along, read-raised, stands-along}
 use Rattle.mq_recover.proofs.RecoverCopies.{stands-copy}
 use Rattle.mq_recover.proofs.DrivesZones.{IsZone, port_in, role_in, image_in, home_in, zone-is, still-in, images-in, image-at, home-in, view-home, placed-at}
@@ -135,10 +135,11 @@ same-queue g s e q i own still kept image =
       area = λ k inside. certain-image t i k (block_at p.blocks k) image same.posted (omega arith) (same.area k inside);
     }
 
-pub same-log : (g : Geometry) (s e : DriveState) (queues : List PortImage) (root : PortImage) → IsQuiescentDrive g s → AreKept g s e → AreImages g e queues root → IsSameLog g (view_over g s) (shown says g queues root)
+pub same-log : (g : Geometry) (s e : DriveState) (queues : List PortImage) (root : PortImage) → IsQuiescentDrive g s → AreKept g s e → AreImages g e queues root → IsSameLog g (view_over g s) (shown journal_reading g queues root)
 same-log g s e queues root still kept images =
     let same = λ (q : ℕ) (own : q < g.queues). same-queue g s e q (image_at queues q) own still kept (images.each q own) in
     record {
+      form = refl;
       doorbell = λ q own. (same q own).doorbell ∙ sym (ap (λ (i : PortImage). i.doorbell) (image-at s.queues q));
       entry = λ q k own. (same q own).entry k ∙ sym (ap (λ (i : PortImage). says (get_or i.slots k [])) (image-at s.queues q));
       area = λ q k own inside. (same q own).area k inside ∙ sym (ap (λ (i : PortImage). block_at i.blocks k) (image-at s.queues q));
@@ -152,7 +153,7 @@ view-doorbell g s q = ap (λ (i : PortImage). i.doorbell) (image-at s.queues q)
 
 -- where a block is certain, each image holds it
 home-image : (g : Geometry) (s e : DriveState) (queues : List PortImage) (root : PortImage) (x : ℕ) (v : List ℕ) → IsQuiescentDrive g s → AreKept g s e → AreImages g e queues root → x < homes_of g
-    → IsSure (port_in e (zone_of g x)) (home_index g x) v → (shown says g queues root).home x ≡ v
+    → IsSure (port_in e (zone_of g x)) (home_index g x) v → (shown journal_reading g queues root).home x ≡ v
 home-image g s e queues root x v still kept images inside certain =
     let z : Option ℕ = zone_of g x in
     let zone : IsZone g z = zone-is g x inside in
@@ -165,14 +166,14 @@ home-image g s e queues root x v still kept images inside certain =
 
 -- a block that is not written is as at the start
 going-home : (g : Geometry) (s e : DriveState) (writes : Writes) (queues : List PortImage) (root : PortImage) (x : ℕ) → IsQuiescentDrive g s → AreKept g s e → IsGoing g s e writes → AreImages g e queues root → x < homes_of g → written writes x ≡ None
-    → (shown says g queues root).home x ≡ (view_over g s).home x
+    → (shown journal_reading g queues root).home x ≡ (view_over g s).home x
 going-home g s e writes queues root x still kept going images inside none =
     home-image g s e queues root x (home_in g s x) still kept images inside (going.homes x inside none)
     ∙ sym (view-home g s x)
 
 -- each block is what was written, else as at the start
 homes-home : (g : Geometry) (s e : DriveState) (writes : Writes) (queues : List PortImage) (root : PortImage) (x : ℕ) → IsQuiescentDrive g s → AreKept g s e → AreHome g s e writes → AreImages g e queues root → x < homes_of g
-    → (shown says g queues root).home x ≡ or_else (written writes x) ((view_over g s).home x)
+    → (shown journal_reading g queues root).home x ≡ or_else (written writes x) ((view_over g s).home x)
 homes-home g s e writes queues root x still kept homes images inside =
     home-image g s e queues root x (or_else (written writes x) (home_in g s x)) still kept images inside (homes x inside)
     ∙ ap (or_else (written writes x)) (sym (view-home g s x))
@@ -182,16 +183,16 @@ homes-home g s e writes queues root x still kept homes images inside =
 -- what is to be shown of one image
 abbrev StandsIn : (g : Geometry) (s : DriveState) (ds : List Descriptor) (top : ℕ) (queues : List PortImage) (root : PortImage) → Type 0
 StandsIn g s ds top queues root =
-    (es : List Descriptor) × IsReadPrefix g (shown says g queues root) es top
+    (es : List Descriptor) × IsReadPrefix g (shown journal_reading g queues root) es top
     × (((root.base ≡ s.root.base) × (es ≡ ds)) ⊎ ((root.base ≡ top) × (es ≡ [])))
-    × ((b : ℕ) → b < homes_of g → stands g (shown says g queues root) es b ≡ stands g (view_over g s) ds b)
+    × ((b : ℕ) → b < homes_of g → stands g (shown journal_reading g queues root) es b ≡ stands g (view_over g s) ds b)
 
 over-old : (g : Geometry) (s : DriveState) (ds : List Descriptor) (top : ℕ) (writes : Writes) (queues : List PortImage) (root : PortImage) → IsReadPrefix g (view_over g s) ds top → AreHomeWrites g s ds writes
-    → IsSameLog g (view_over g s) (shown says g queues root) → root.base ≡ s.root.base → AreSameHeads g (view_over g s) (shown says g queues root)
-    → ((x : ℕ) → x < homes_of g → written writes x ≡ None → (shown says g queues root).home x ≡ (view_over g s).home x) → StandsIn g s ds top queues root
+    → IsSameLog g (view_over g s) (shown journal_reading g queues root) → root.base ≡ s.root.base → AreSameHeads g (view_over g s) (shown journal_reading g queues root)
+    → ((x : ℕ) → x < homes_of g → written writes x ≡ None → (shown journal_reading g queues root).home x ≡ (view_over g s).home x) → StandsIn g s ds top queues root
 over-old g s ds top writes queues root read are same base head kept =
     let v : Shown = view_over g s in
-    let i : Shown = shown says g queues root in (
+    let i : Shown = shown journal_reading g queues root in (
       ds,
       read-along g v i ds top same base head read,
       inl (base, refl),
@@ -199,11 +200,11 @@ over-old g s ds top writes queues root read are same base head kept =
     )
 
 over-top : (g : Geometry) (s : DriveState) (ds : List Descriptor) (top : ℕ) (writes : Writes) (queues : List PortImage) (root : PortImage) → IsReadPrefix g (view_over g s) ds top → AreHomeWrites g s ds writes
-    → IsSameLog g (view_over g s) (shown says g queues root) → root.base ≡ top → AreMovedHeads g (view_over g s) (shown says g queues root)
-    → ((x : ℕ) → x < homes_of g → (shown says g queues root).home x ≡ or_else (written writes x) ((view_over g s).home x)) → StandsIn g s ds top queues root
+    → IsSameLog g (view_over g s) (shown journal_reading g queues root) → root.base ≡ top → AreMovedHeads g (view_over g s) (shown journal_reading g queues root)
+    → ((x : ℕ) → x < homes_of g → (shown journal_reading g queues root).home x ≡ or_else (written writes x) ((view_over g s).home x)) → StandsIn g s ds top queues root
 over-top g s ds top writes queues root read are same base head homes =
     let v : Shown = view_over g s in
-    let i : Shown = shown says g queues root in (
+    let i : Shown = shown journal_reading g queues root in (
       [],
       read-raised g v i ds top same base head read,
       inr (base, refl),
@@ -219,12 +220,12 @@ either n a b m o which first second = ⊎_elim
     (λ h. ⊎_elim (λ l. inl (h ∙ l)) (λ r. inr (h ∙ r)) second)
     which
 
-same-heads : (g : Geometry) (s e : DriveState) (queues : List PortImage) (root : PortImage) → AreHeadsKept g s e → AreImages g e queues root → AreSameHeads g (view_over g s) (shown says g queues root)
+same-heads : (g : Geometry) (s e : DriveState) (queues : List PortImage) (root : PortImage) → AreHeadsKept g s e → AreImages g e queues root → AreSameHeads g (view_over g s) (shown journal_reading g queues root)
 same-heads g s e queues root heads images q own =
     let kept = heads q own in
     ⊎_elim (λ a. a ∙ kept.head) (λ b. b ∙ kept.stored_head) (images.each q own).head ∙ sym (view-head g s q)
 
-moved-heads : (g : Geometry) (s e : DriveState) (queues : List PortImage) (root : PortImage) → AreHeadsMoving g s e → AreImages g e queues root → AreMovedHeads g (view_over g s) (shown says g queues root)
+moved-heads : (g : Geometry) (s e : DriveState) (queues : List PortImage) (root : PortImage) → AreHeadsMoving g s e → AreImages g e queues root → AreMovedHeads g (view_over g s) (shown journal_reading g queues root)
 moved-heads g s e queues root heads images q own =
     let moving = heads q own in
     let p : PortState = port_at s.queues q in

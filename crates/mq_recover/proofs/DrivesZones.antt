@@ -15,8 +15,9 @@ use Rattle.mq_ledger.specs.State.{port_at}
 use Rattle.mq_drive.specs.Start.{IsPortOf, area_size_of}
 use Rattle.mq_drive.specs.declared.role.Role.{Role}
 use Rattle.mq_drive.specs.declared.role.Role.TheVariants.{Queue, Root}
+use Rattle.mq_drive.proofs.StartRolePorts.{is-port}
 use Rattle.mq_recover.specs.Drives.{DriveState, IsQuiescentPort, ArePorts, IsQuiescentDrive, AreImages, at_queue, view_over}
-use Rattle.mq_recover.specs.Steps.{at_home}
+use Rattle.mq_recover.specs.Events.{at_home}
 
 -- ---- a port by its zone
 
@@ -188,28 +189,8 @@ place-apart g x y zone same = apart (zone_of g y) zone refl (ap (λ (z : Option 
 -- ---- a port as the pure machine sees it
 
 pub port-of : (g : Geometry) (z : Option ℕ) (p : PortState) → IsPortOf g (role_in z) p → IsPort g z p
-port-of g None p port = record {
-  queue = port.queue;
-  area_first = port.area_first;
-  area_size = port.area_size;
-  homes_first = port.homes_first;
-  homes_size = port.homes_size;
-  flushed = port.flushed;
-  staged = port.staged;
-  blocks = port.blocks;
-  certain = port.certain ∙ port.blocks;
-}
-port-of g (Some q) p port = record {
-  queue = port.queue;
-  area_first = port.area_first;
-  area_size = port.area_size;
-  homes_first = port.homes_first;
-  homes_size = port.homes_size;
-  flushed = port.flushed;
-  staged = port.staged;
-  blocks = port.blocks;
-  certain = port.certain ∙ port.blocks;
-}
+port-of g None p port = is-port port
+port-of g (Some q) p port = is-port port
 
 -- a home block is one of its port's
 pub home-own : (g : Geometry) (z : Option ℕ) (p : PortState) (x : ℕ) → zone_of g x ≡ z → IsPortOf g (role_in z) p → IsHome p (home_lba g x)

@@ -5,7 +5,8 @@ use Rattle.std.proofs.lemmas.List.{get_or_read}
 use Rattle.std.proofs.lemmas.Option.{slice_get-get_or}
 use Rattle.std.specs.Prelude.{slice_get, MatchOption}
 use Rattle.mq_blocks.specs.Descriptor.{Descriptor}
-use Rattle.mq_recover.specs.Ends.{chain_at, EndsWith, AreEmpty, IsLeastEnd, IsAlone, IsNext, IsLeast}
+use Rattle.mq_recover.specs.Recover.{chain_at}
+use Rattle.mq_recover.specs.Ends.{EndsWith, AreEmpty, IsLeastEnd, IsAlone, IsNext, IsLeast}
 use Rattle.mq_recover.specs.declared.oldest.Least.{Least}
 
 -- ---- ends

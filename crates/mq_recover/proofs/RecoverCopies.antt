@@ -1,15 +1,18 @@
 -- Where the copies stand.
-use Rattle.std.proofs.Common.{◌≡◌, ◌≢◌, ◌<◌, ◌≤◌, inl, inr, ⊎_elim, ℕ, zero, suc, ◌+◌, ◌-◌, ◌%◌, List, [], ◌∷◌, length, Bool, true, false, Option, Some, None, get_or, set, drop, replicate, refl, sym, ◌∙◌, ap, arith, drop-cons, add-one}
+use Rattle.std.proofs.Common.{◌≡◌, ◌≢◌, ◌<◌, ◌≤◌, inl, inr, ⊎_elim, ℕ, zero, suc, ◌+◌, ◌-◌, ◌%◌, List, [], ◌∷◌, length, Bool, true, false, Option, Some, None, get_or, set, drop, replicate, refl, subst, sym, ◌∙◌, ap, arith, drop-cons, add-one}
 use Rattle.std.proofs.lemmas.Bool.{cases_eq, eq-eqb, ne_eqb}
 use Rattle.std.proofs.lemmas.Grind.{get_or-set_at}
 use Rattle.std.proofs.lemmas.List.{get_or-set_other, length-replicate}
 use Rattle.std.proofs.Math.ListN.{length-set}
 use Rattle.std.specs.Prelude.{nat_eq, if◌then◌else◌}
-use Rattle.mq_blocks.specs.Descriptor.{Descriptor, AreRising}
-use Rattle.mq_blocks.specs.Geometry.{homes_of}
+use Rattle.mq_blocks.proofs.DescriptorLimits.{limit-high, listed-high}
+use Rattle.mq_blocks.specs.Limits.{list_limit}
+use Rattle.mq_blocks.specs.Descriptor.{Descriptor, AreRising, IsGood, first_place, most_listed, DescriptorForm, journal_form}
+use Rattle.mq_blocks.specs.Geometry.{homes_of, write_limit}
 use Rattle.mq_blocks.specs.Journal.{Shown, IsChain, Has, is_among, logged_copy, or_else, stands}
 use Rattle.mq_blocks.specs.declared.geometry.Geometry.{Geometry}
-use Rattle.mq_recover.specs.Recover.{copy_place_at, IsCopyPlaceOf, or_place, logged_place, copy_of, forgotten, noted, with_all, AreGood, AreOf, content_of}
+use Rattle.mq_recover.specs.Copies.{copy_place_at, IsCopyPlaceOf, or_place, logged_place, copy_of, forgotten, noted, with_all, content_of}
+use Rattle.mq_recover.specs.Recover.{AreGood, AreOf}
 use Rattle.mq_recover.specs.declared.copies.CopyPlace.{CopyPlace}
 
 pub rising-at : (low high : ℕ) (xs : List ℕ) (k d : ℕ) → AreRising low high xs → k < length xs → get_or xs k d < high
@@ -43,7 +46,7 @@ length-noted copies q place (b ∷ bs) = length-noted (set copies b (Some (copy_
 pub length-with_all : (homes : ℕ) (ds : List Descriptor) → length (with_all homes ds) ≡ homes
 length-with_all homes [] = length-replicate homes None
 length-with_all homes (d ∷ ds) =
-    length-noted (forgotten (with_all homes ds) d.revoked) d.queue (d.place - length d.logged) d.logged ∙ length-forgotten (with_all homes ds) d.revoked ∙ length-with_all homes ds
+    length-noted (forgotten (with_all homes ds) d.revoked) d.queue (first_place d) d.logged ∙ length-forgotten (with_all homes ds) d.revoked ∙ length-with_all homes ds
 
 same-eq : (b x : ℕ) → b ≡ x → nat_eq b x ≡ true
 same-eq b x same = eq-eqb b x same
@@ -113,7 +116,7 @@ with_all-at homes (d ∷ ds) x good =
     let n = length-with_all homes ds in
     let fits : homes ≤ length (with_all homes ds) = omega (arith, n) in
     let still : homes ≤ length (forgotten (with_all homes ds) d.revoked) = omega (arith, length-forgotten (with_all homes ds) d.revoked, n) in
-    let place = d.place - length d.logged in
+    let place = first_place d in
     noted-at 0 homes (forgotten (with_all homes ds) d.revoked) d.queue place d.logged x good.0.logged still
     ∙ ap (or_place (logged_place d.queue place d.logged x))
     (forgotten-at 0 homes (with_all homes ds) d.revoked x good.0.revoked fits ∙ ap (λ (o : Option CopyPlace). if is_among x d.revoked then None else o) (with_all-at homes ds x good.1))
@@ -143,8 +146,8 @@ else-if area size false a home = refl
 pub stands-copy : (g : Geometry) (i : Shown) (ds : List Descriptor) (x : ℕ) → stands g i ds x ≡ or_else (content_of i.area g.area (copy_of ds x)) (i.home x)
 stands-copy g i [] x = refl
 stands-copy g i (d ∷ ds) x =
-    let copy = logged_place d.queue (d.place - length d.logged) d.logged x in
-    ap (λ (o : Option (List ℕ)). or_else o (if is_among x d.revoked then i.home x else stands g i ds x)) (content-logged i.area g.area d.queue (d.place - length d.logged) d.logged x)
+    let copy = logged_place d.queue (first_place d) d.logged x in
+    ap (λ (o : Option (List ℕ)). or_else o (if is_among x d.revoked then i.home x else stands g i ds x)) (content-logged i.area g.area d.queue (first_place d) d.logged x)
     ∙ ap (λ (l : List ℕ). or_else (content_of i.area g.area copy) (if is_among x d.revoked then i.home x else l)) (stands-copy g i ds x)
     ∙ ap (or_else (content_of i.area g.area copy)) (sym (else-if i.area g.area (is_among x d.revoked) (copy_of ds x) (i.home x)))
     ∙ sym (else-or i.area g.area copy (if is_among x d.revoked then None else copy_of ds x) (i.home x))
@@ -165,14 +168,34 @@ logged-within n q place (b ∷ bs) x low = place-if n (nat_eq b x) (Some (copy_p
 pub copy-within : (n : ℕ) (ds : List Descriptor) (x : ℕ) → ((d : Descriptor) → Has ds d → d.queue < n) → IsCopyPlaceOf n (copy_of ds x)
 copy-within n [] x own = tt
 copy-within n (d ∷ ds) x own =
-    let copy = logged_place d.queue (d.place - length d.logged) d.logged x in
-    place-or n copy (if is_among x d.revoked then None else copy_of ds x) (logged-within n d.queue (d.place - length d.logged) d.logged x (own d (inl refl)))
+    let copy = logged_place d.queue (first_place d) d.logged x in
+    place-or n copy (if is_among x d.revoked then None else copy_of ds x) (logged-within n d.queue (first_place d) d.logged x (own d (inl refl)))
     (place-if n (is_among x d.revoked) None (copy_of ds x) tt (copy-within n ds x (λ e has. own e (inr has))))
 
 pub chain-of : (g : Geometry) (i : Shown) (q number place : ℕ) (ds : List Descriptor) → IsChain g i q number place ds → AreOf q ds
 chain-of g i q number place [] chain = tt
 chain-of g i q number place (d ∷ ds) chain = (chain.1.queue_is, chain-of g i q d.prev_number d.prev_place ds chain.2)
 
-pub chain-good : (g : Geometry) (i : Shown) (q number place : ℕ) (ds : List Descriptor) → IsChain g i q number place ds → AreGood (homes_of g) ds
-chain-good g i q number place [] chain = tt
-chain-good g i q number place (d ∷ ds) chain = (chain.1.good, chain-good g i q d.prev_number d.prev_place ds chain.2)
+good-more : (most homes : ℕ) (d : Descriptor) → most ≤ list_limit → IsGood most homes d → IsGood list_limit homes d
+good-more most homes d more good =
+    let counts = good.counts in
+    record {
+      queue = good.queue;
+      number = good.number;
+      place = good.place;
+      falls = good.falls;
+      first = good.first;
+      before = good.before;
+      counts = omega (arith, counts, more);
+      fits = good.fits;
+      logged = good.logged;
+      revoked = good.revoked;
+      apart = good.apart;
+    }
+
+pub chain-good : (g : Geometry) (i : Shown) (q number place : ℕ) (ds : List Descriptor) → i.form ≡ journal_form → IsChain g i q number place ds → AreGood (homes_of g) ds
+chain-good g i q number place [] form chain = tt
+chain-good g i q number place (d ∷ ds) form chain =
+    let version = chain.1.is.version in
+    let G : DescriptorForm → Type 0 = λ f. IsGood (f.most (write_limit g) version) (homes_of g) d in
+    (good-more (most_listed (write_limit g) version) (homes_of g) d (listed-high (write_limit g) version (limit-high g)) (subst G form chain.1.is.good), chain-good g i q d.prev_number d.prev_place ds form chain.2)

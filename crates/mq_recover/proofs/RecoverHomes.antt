@@ -13,13 +13,15 @@ use Rattle.mq_blocks.specs.Machine.{Writes, or_kept}
 use Rattle.mq_blocks.specs.declared.command.HomeWrite.{HomeWrite}
 use Rattle.mq_blocks.specs.declared.geometry.Geometry.{Geometry}
 use Rattle.mq_blocks.proofs.DriveBegun.{begun_new}
+use Rattle.mq_blocks.proofs.Ports.{parts_of}
 use Rattle.mq_ledger.specs.Sides.{home_index}
 use Rattle.mq_ledger.specs.State.{port_at}
 use Rattle.mq_drive.specs.Start.{IsPortOf, area_size_of}
 use Rattle.mq_drive.specs.declared.role.Role.{Role}
+use Rattle.mq_drive.proofs.StartRolePorts.{port_of-along}
 use Rattle.mq_recover.specs.Drives.{DriveState, ArePorts}
 use Rattle.mq_recover.specs.RecoverHomes.{written, AreBelow, after_home}
-use Rattle.mq_recover.specs.Steps.{BeginHome, EndHome, at_home, after_event, after_events, home_events}
+use Rattle.mq_recover.specs.Events.{BeginHome, EndHome, at_home, after_event, after_events, home_events}
 use Rattle.mq_recover.proofs.DrivesZones.{IsZone, port_in, role_in, home_in, zone-cases, zone-is, ports-in, ports-of, at-count, at-here, at-apart, placed-at, place-apart}
 
 -- ---- ports after home writes
@@ -47,18 +49,7 @@ later-then s t u first next =
     }
 
 pub later-port : (g : Geometry) (role : Role) (s t : PortState) → IsWrittenHome s t → IsPortOf g role s → IsPortOf g role t
-later-port g role s t w p = subst (IsPortOf g role) (sym w.same) (record {
-  queue = p.queue;
-  area_first = p.area_first;
-  area_size = p.area_size;
-  homes_first = p.homes_first;
-  homes_size = p.homes_size;
-  flushed = p.flushed;
-  staged = p.staged;
-  blocks = w.blocks_len ∙ p.blocks;
-  certain = w.certain_len ∙ p.certain ∙ sym w.blocks_len;
-  settled = p.settled;
-})
+later-port g role s t w p = subst (IsPortOf g role) (sym w.same) (port_of-along p (λ i. record (parts_of s) { blocks = w.blocks_len i; certain = w.certain_len i }) p.settled)
 
 pub later-quiet : (s t : PortState) → IsWrittenHome s t → IsQuiescent s → IsQuiescent t
 later-quiet s t w q = subst IsQuiescent (sym w.same) (record {

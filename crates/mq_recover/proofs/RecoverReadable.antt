@@ -1,15 +1,16 @@
 -- A readable queue: what is found through its port is what an image of the port shows.
 use Rattle.std.proofs.Common.{◌≡◌, ◌<◌, ◌≤◌, ◌⊎◌, inl, inr, ℕ, ◌+◌, ◌-◌, ◌*◌, ◌%◌, true, List, [], ◌∷◌, length, Option, Some, None, refl, sym, ◌∙◌, ap, subst, arith}
 use Rattle.std.proofs.lemmas.Bool.{cases_eq, cases_lt}
-use Rattle.std.proofs.Math.Nat.{mod-mod, mod-eq_of_lt, mod-lt}
+use Rattle.std.proofs.Math.Nat.{mod-mod, mod-eq_of_lt, mod-lt, mod-add-mod, add-mod_right}
 use Rattle.std.specs.Prelude.{IfOk, IfErr, IsErrOf, MatchResult, Result, Ok, Err}
 use Rattle.mq_area.specs.Reading.{Accepts, PlaceFits}
 use Rattle.mq_area.specs.declared.descriptor.PlaceIs.{PlaceIs}
 use Rattle.mq_area.specs.declared.descriptor.PlaceIs.TheVariants.{Index, Exact}
 use Rattle.mq_blocks.specs.Blocks.{block_at}
-use Rattle.mq_blocks.specs.Descriptor.{Descriptor}
-use Rattle.mq_blocks.specs.Drive.{PortState, depth}
-use Rattle.mq_blocks.specs.Geometry.{area_of, area_lba, homes_of}
+use Rattle.mq_blocks.specs.Limits.{depth}
+use Rattle.mq_blocks.specs.Descriptor.{Descriptor, first_place, DescriptorForm, IsDescriptor, journal_form}
+use Rattle.mq_blocks.specs.Drive.{PortState}
+use Rattle.mq_blocks.specs.Geometry.{area_of, area_lba, homes_of, write_limit}
 use Rattle.mq_blocks.specs.Journal.{Shown, WriteFields, Holds, IsChain, AreInReach, IsQueueChain}
 use Rattle.mq_blocks.specs.declared.geometry.Geometry.{Geometry}
 use Rattle.mq_drive.specs.Roles.{role_of}
@@ -19,7 +20,7 @@ use Rattle.mq_drive.specs.declared.role.Role.TheVariants.{Queue}
 use Rattle.mq_nvme.specs.Says.{says}
 use Rattle.mq_ledger.proofs.JournalChains.{chain-none}
 use Rattle.mq_recover.specs.Recover.{IsSeenAt, IsQueuePort, AreFalling, where_of}
-use Rattle.mq_recover.specs.Refusals.{IsNewest, AreFound, IsIndex, IsWholeChain, IsReadable, RefusesQueue, entry_at, expected, block_where}
+use Rattle.mq_recover.specs.Refusals.{IsNewest, AreFound, IsIndex, IsWholeChain, IsReadable, RefusesQueue, entry_at, expected, block_where, before_where}
 use Rattle.mq_recover.specs.declared.refusal.ChainRefusal.{ChainRefusal}
 use Rattle.mq_recover.specs.declared.refusal.ChainRefusal.TheVariants.{OutOfMemory}
 use Rattle.mq_recover.proofs.Refusals.{readable-once, readable-refused, refuses-queue-once}
@@ -28,20 +29,32 @@ pub where-fits : (area : ℕ) (p : PlaceIs) (place : ℕ) → PlaceFits area p p
 where-fits area (Index index) place fits = ap (λ (n : ℕ). n % area) (sym fits) ∙ mod-mod place area
 where-fits area (Exact exact) place fits = ap (λ (n : ℕ). n % area) (sym fits)
 
+-- the block before the one where it is expected is the one before its place
+before-fits : (area : ℕ) (p : PlaceIs) (place : ℕ) → 0 < area → 0 < place → PlaceFits area p place → (where_of p % area + (area - 1)) % area ≡ (place - 1) % area
+before-fits area p place some above fits =
+    let e : place + (area - 1) ≡ place - 1 + area = omega arith in
+    ap (λ (n : ℕ). (n + (area - 1)) % area) (where-fits area p place fits) ∙ mod-add-mod place area (area - 1) ∙ ap (λ (n : ℕ). n % area) e ∙ add-mod_right (place - 1) area
+
 -- the queue is seen over the base of the image itself
 own-base : (q base : ℕ) (s : PortState) (i : Shown) → IsSeenAt q base s i → IsSeenAt q i.base s i
-own-base q base s i seen = record { base_is = refl; head_is = seen.head_is; doorbell_is = seen.doorbell_is; entry_is = seen.entry_is; area_is = seen.area_is }
+own-base q base s i seen = record { form_is = seen.form_is; base_is = refl; head_is = seen.head_is; doorbell_is = seen.doorbell_is; entry_is = seen.entry_is; area_is = seen.area_is }
 
 -- ---- what is found is shown
 
-holds-of : (g : Geometry) (i : Shown) (s : PortState) (q number : ℕ) (at : PlaceIs) (d : Descriptor) → IsSeenAt q i.base s i → Accepts g (expected q number at) (block_where g s at) d → Holds g i q number d.place d
-holds-of g i s q number at d seen a = record {
-  is = seen.area_is (d.place % g.area) ∙ ap (block_at s.blocks) (sym (where-fits g.area at d.place a.place)) ∙ a.bytes;
-  good = a.good;
-  queue_is = a.queue;
-  number_is = a.number;
-  place_is = refl;
-}
+holds-of : (g : Geometry) (i : Shown) (s : PortState) (q number : ℕ) (at : PlaceIs) (d : Descriptor) → IsSeenAt q i.base s i → Accepts g (expected q number at) (block_where g s at) (before_where g s at) d → Holds g i q number d.place d
+holds-of g i s q number at d seen a =
+    let D : DescriptorForm → Type 0 = λ form. IsDescriptor form (write_limit g) (homes_of g) (i.area q (d.place % g.area)) (i.area q ((d.place - 1) % g.area)) d in
+    let there : D journal_form = record {
+      version = a.is.version;
+      known = a.is.known;
+      last = seen.area_is (d.place % g.area) ∙ ap (block_at s.blocks) (sym (where-fits g.area at d.place a.place)) ∙ a.is.last;
+      rest = λ one.
+          let size = g.area_low in
+          let fits = a.is.good.fits in
+          seen.area_is ((d.place - 1) % g.area) ∙ ap (block_at s.blocks) (sym (before-fits g.area at d.place (omega (arith, size)) (omega (arith, fits, one)) a.place)) ∙ a.is.rest one;
+      good = a.is.good;
+    } in
+    record { is = subst D (sym seen.form_is) there; queue_is = a.queue; number_is = a.number; place_is = refl }
 
 found-chain : (g : Geometry) (i : Shown) (s : PortState) (q number place n : ℕ) (ds : List Descriptor) (next : ℕ) (at : PlaceIs) (m : Option ℕ)
     → IsSeenAt q i.base s i → AreFound g s q i.base number (Exact place) (Some n) ds next at m → next ≤ i.base → IsChain g i q number place ds × AreInReach g n ds
@@ -120,14 +133,26 @@ readable-shown g i s q base ds seen r =
 -- ---- what is shown is found
 
 accepts-of : (g : Geometry) (i : Shown) (s : PortState) (q number place : ℕ) (at : PlaceIs) (d : Descriptor) → IsSeenAt q i.base s i → PlaceFits (area_of g) at place → Holds g i q number place d
-    → Accepts g (expected q number at) (block_where g s at) d
-accepts-of g i s q number place at d seen fits h = record {
-  bytes = ap (block_at s.blocks) (where-fits g.area at place fits) ∙ sym (seen.area_is (place % g.area)) ∙ h.is;
-  good = h.good;
-  queue = h.queue_is;
-  number = h.number_is;
-  place = subst (λ (n : ℕ). PlaceFits (area_of g) at n) (sym h.place_is) fits;
-}
+    → Accepts g (expected q number at) (block_where g s at) (before_where g s at) d
+accepts-of g i s q number place at d seen fits h =
+    let D : DescriptorForm → Type 0 = λ form. IsDescriptor form (write_limit g) (homes_of g) (i.area q (place % g.area)) (i.area q ((place - 1) % g.area)) d in
+    let is : D journal_form = subst D seen.form_is h.is in
+    record {
+      is = record {
+        version = is.version;
+        known = is.known;
+        last = ap (block_at s.blocks) (where-fits g.area at place fits) ∙ sym (seen.area_is (place % g.area)) ∙ is.last;
+        rest = λ one.
+            let size = g.area_low in
+            let low = is.good.fits in
+            let here = h.place_is in
+            ap (block_at s.blocks) (before-fits g.area at place (omega (arith, size)) (omega (arith, low, one, here)) fits) ∙ sym (seen.area_is ((place - 1) % g.area)) ∙ is.rest one;
+        good = is.good;
+      };
+      queue = h.queue_is;
+      number = h.number_is;
+      place = subst (λ (n : ℕ). PlaceFits (area_of g) at n) (sym h.place_is) fits;
+    }
 
 abbrev WalksTo : (g : Geometry) (s : PortState) (q base number : ℕ) → PlaceIs → Option ℕ → List Descriptor → Type 0
 WalksTo g s q base number at newest ds = (next : ℕ) × (to : PlaceIs) × (m : Option ℕ) × AreFound g s q base number at newest ds next to m × (next ≤ base)
@@ -145,7 +170,7 @@ chain-walked g i s q number place [] seen above chain reach = absurd (omega (ari
 chain-walked g i s q number place (d ∷ ds) seen above chain reach =
     let place_is : d.place ≡ place = chain.1.place_is in
     let more = chain-found g i s q d.prev_number d.prev_place d.place ds seen chain.2 (subst (λ (n : ℕ). AreInReach g n ds) (sym place_is) reach.1) in
-    let near : d.place < (d.place - length d.logged) + g.area = let r = reach.0 in omega (arith, place_is, r) in
+    let near : d.place < first_place d + g.area = let r = reach.0 in omega (arith, place_is, r) in
     (more.0, more.1, more.2, (chain.0, (accepts-of g i s q number place (Index (place % g.area)) d seen refl chain.1, near), more.3), more.4)
 
 whole-of : (g : Geometry) (i : Shown) (s : PortState) (q base : ℕ) (ds : List Descriptor) → IsSeenAt q base s i → (c : IsQueueChain g i q ds) → IsWholeChain g s q base c.number c.lba ds
@@ -214,7 +239,7 @@ chain-falls g i q number place high [] chain low = tt
 chain-falls g i q number place high (d ∷ ds) chain low =
     let is = chain.1.number_is in
     let above = chain.0 in
-    let falls = chain.1.good.falls in
+    let falls = chain.1.is.good.falls in
     (omega (arith, is, above), omega (arith, is, low), chain-falls g i q d.prev_number d.prev_place d.number ds chain.2 falls)
 
 -- ---- what reading gives

@@ -1,21 +1,23 @@
 -- What an image reads as while a recovery is under way.
 use Rattle.std.proofs.Common.{◌≡◌, ◌<◌, ◌≤◌, ◌⊎◌, inl, inr, ⊎_elim, ℕ, ◌+◌, ◌-◌, ◌%◌, List, [], ◌∷◌, length, true, Option, Some, None, refl, sym, ◌∙◌, ap, subst, arith}
 use Rattle.std.proofs.lemmas.Bool.{cases_lt}
-use Rattle.mq_blocks.specs.Descriptor.{Descriptor}
-use Rattle.mq_blocks.specs.Drive.{depth}
+use Rattle.mq_blocks.specs.Geometry.{homes_of, write_limit}
+use Rattle.mq_blocks.specs.Descriptor.{Descriptor, DescriptorForm, IsDescriptor}
+use Rattle.mq_blocks.specs.Limits.{depth}
 use Rattle.mq_blocks.specs.Journal.{WriteFields, Shown, IsChain, IsQueueChain, AreWhole, AreInRow, Has, ShowsNumber, IsTop, number_limit, or_else, stands}
 use Rattle.mq_blocks.specs.declared.geometry.Geometry.{Geometry}
 use Rattle.mq_blocks.proofs.GeometryAddresses.{in_area}
 use Rattle.mq_ledger.proofs.JournalChains.{said-once}
 use Rattle.mq_recover.specs.Recovery.{IsReadPrefix}
-use Rattle.mq_recover.specs.Recover.{IsCopyPlaceOf, copy_of, content_of}
+use Rattle.mq_recover.specs.Copies.{IsCopyPlaceOf, copy_of, content_of}
 use Rattle.mq_recover.specs.declared.copies.CopyPlace.{CopyPlace}
-use Rattle.mq_recover.proofs.PlansPopped.{falls-under}
+use Rattle.mq_recover.proofs.Merges.{falls-under}
 use Rattle.mq_recover.proofs.RecoverReadable.{chain-falls}
 use Rattle.mq_recover.proofs.RecoverCopies.{copy-within, stands-copy}
 
--- the same doorbells, entries and areas of the queues
+-- the same form, and the same doorbells, entries and areas of the queues
 pub record IsSameLog (g : Geometry) (v i : Shown) : Type 0 where
+  pub form : i.form ≡ v.form
   pub doorbell : (q : ℕ) → q < g.queues → i.doorbell q ≡ v.doorbell q
   pub entry : (q k : ℕ) → q < g.queues → i.entry q k ≡ v.entry q k
   pub area : (q k : ℕ) → q < g.queues → k < g.area → i.area q k ≡ v.area q k
@@ -34,15 +36,17 @@ chain-along : (g : Geometry) (v i : Shown) (q number place : ℕ) (ds : List Des
 chain-along g v i q number place [] own same base chain = omega arith
 chain-along g v i q number place (d ∷ ds) own same base chain =
     let above = chain.0 in
-    let holds = chain.1 in (
+    let holds = chain.1 in
+    let D : DescriptorForm → Type 0 = λ form. IsDescriptor form (write_limit g) (homes_of g) (i.area q (place % g.area)) (i.area q ((place - 1) % g.area)) d in
+    let there : D v.form = record {
+      version = holds.is.version;
+      known = holds.is.known;
+      last = same.area q (place % g.area) own (in_area g place) ∙ holds.is.last;
+      rest = λ one. same.area q ((place - 1) % g.area) own (in_area g (place - 1)) ∙ holds.is.rest one;
+      good = holds.is.good;
+    } in (
       omega arith,
-      record {
-        is = same.area q (place % g.area) own (in_area g place) ∙ holds.is;
-        good = holds.good;
-        queue_is = holds.queue_is;
-        number_is = holds.number_is;
-        place_is = holds.place_is;
-      },
+      record { is = subst D (sym same.form) there; queue_is = holds.queue_is; number_is = holds.number_is; place_is = holds.place_is },
       chain-along g v i q d.prev_number d.prev_place ds own same base chain.2,
     )
 
@@ -103,6 +107,7 @@ read-along g v i ds top same base head read =
     let whole = whole-along g v i read.chains same base head read.whole in
     let prefix = read.prefix in
     record {
+      form_is = same.form ∙ read.form_is;
       chains = read.chains;
       whole = whole;
       prefix = record {
@@ -245,6 +250,7 @@ read-raised g v i ds top same base head read =
       once = λ q r p s other d e has. absurd has;
     } in
     record {
+      form_is = same.form ∙ read.form_is;
       chains = none;
       whole = whole;
       prefix = record { row = tt; whole = λ d has. absurd has; greatest = λ q d low has. absurd has };

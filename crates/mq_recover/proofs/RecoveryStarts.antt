@@ -1,16 +1,18 @@
 -- After a recovery the drive is a start of the pure machine.
 use Rattle.std.proofs.Common.{◌≡◌, ◌<◌, ◌≤◌, ℕ, zero, suc, ◌-◌, ◌%◌, ◌^◌, true, List, [], ◌∷◌, map, Option, Some, None, get_or, refl, sym, ◌∙◌, ap, subst, arith}
 use Rattle.std.proofs.lemmas.List.{length-replicate, get_or-replicate}
+use Rattle.mq_blocks.specs.Descriptor.{journal_form}
 use Rattle.mq_nvme.specs.Says.{says}
 use Rattle.mq_blocks.specs.Blocks.{block_at}
-use Rattle.mq_blocks.specs.Drive.{PortState, PortImage, depth}
+use Rattle.mq_blocks.specs.Limits.{depth}
+use Rattle.mq_blocks.specs.Drive.{PortState, PortImage}
 use Rattle.mq_blocks.specs.Geometry.{homes_of, zone_of}
 use Rattle.mq_blocks.specs.Journal.{IsQueueChain, number_limit}
 use Rattle.mq_blocks.specs.declared.geometry.Geometry.{Geometry}
 use Rattle.mq_ledger.specs.Sides.{AreHome, home_index, home_index_in, flushed_at}
 use Rattle.mq_ledger.specs.State.{IsStartPort, known_of, port_at, from_at}
 use Rattle.mq_ledger.specs.Written.{journal_entries}
-use Rattle.mq_ledger.proofs.Written.{entries_read}
+use Rattle.mq_ledger.proofs.Written.{entries_read, form_sound}
 use Rattle.mq_recover.specs.Drives.{DriveState, IsQuiescentPort, IsQuiescentDrive, view_over}
 use Rattle.mq_recover.specs.Recovery.{IsReadPrefix, IsStartDrive, started}
 use Rattle.mq_recover.proofs.RecoveryCutImages.{newest-low}
@@ -87,7 +89,8 @@ pub starts : (g : Geometry) (d : DriveState) (base : ℕ) → IsQuiescentDrive g
 starts g d base still heads read base_is start long holds =
     let limit = read.whole.limit in
     record {
-      entries = entries_read;
+      entries = entries_read journal_form;
+      form = form_sound;
       history = refl;
       low = limit;
       base = refl;

@@ -3,7 +3,7 @@ use Rattle.std.proofs.Common.{◌≡◌, ◌<◌, ◌≤◌, ◌⊎◌, inl, inr
 use Rattle.std.proofs.lemmas.Bool.{cases_eq, cases_lt}
 use Rattle.std.proofs.Math.Nat.{mod-eq_of_lt}
 use Rattle.std.specs.Option.{unwrap_or}
-use Rattle.mq_blocks.specs.Descriptor.{Descriptor}
+use Rattle.mq_blocks.specs.Descriptor.{Descriptor, first_place}
 use Rattle.mq_blocks.specs.Drive.{PortState}
 use Rattle.mq_blocks.specs.Geometry.{area_of}
 use Rattle.mq_blocks.specs.Journal.{WriteFields}
@@ -17,8 +17,7 @@ use Rattle.mq_area.specs.declared.descriptor.PlaceIs.{PlaceIs}
 use Rattle.mq_area.specs.declared.descriptor.PlaceIs.TheVariants.{Index, Exact}
 use Rattle.mq_area.specs.declared.refusal.DescriptorRefusal.{DescriptorRefusal}
 use Rattle.mq_ledger.proofs.JournalChains.{said-once}
-use Rattle.mq_recover.specs.Refusals.{AreWords, IsNewest, RefusesNewest, IsFoundNext, AreFound, RefusesNext, IsIndex, RefusesChain, IsWholeChain, IsRung, AreRung, IsRungWhole, RefusesRequest, RefusesRung, IsReadable, RefusesQueue, entry_at, expected, block_where}
-use Rattle.mq_recover.specs.Refusals.{NewestEntry, NewestCommit, NewestLimit, NextRefused, NextApart, ChainOutside, ChainStopped, RequestEntry, RequestLimit, RungStopped, RungCommit, QueueWords, QueueNewest, QueueChain, QueueRung}
+use Rattle.mq_recover.specs.Refusals.{AreWords, IsNewest, RefusesNewest, IsFoundNext, AreFound, RefusesNext, IsIndex, RefusesChain, IsWholeChain, IsRung, AreRung, IsRungWhole, RefusesRequest, RefusesRung, IsReadable, RefusesQueue, entry_at, expected, block_where, before_where, NewestEntry, NewestCommit, NewestLimit, NextRefused, NextApart, ChainOutside, ChainStopped, RequestEntry, RequestLimit, RungStopped, RungCommit, QueueWords, QueueNewest, QueueChain, QueueRung}
 use Rattle.mq_recover.specs.declared.refusal.ChainRefusal.{ChainRefusal}
 use Rattle.mq_recover.specs.declared.refusal.ChainRefusal.TheVariants.{Words, Entry, Descriptor as AtDescriptor, Span, Limit}
 
@@ -110,21 +109,21 @@ newest-test s = record { once = newest-once s; refused = newest-refused s; apart
 -- ---- the chain
 
 next-once : (g : Geometry) (s : PortState) (q number : ℕ) (at : PlaceIs) (newest : Option ℕ) (d e : Descriptor) → IsFoundNext g s q number at newest d → IsFoundNext g s q number at newest e → d ≡ e
-next-once g s q number at newest d e a b = accepted-once g (expected q number at) (block_where g s at) d e a.0 b.0
+next-once g s q number at newest d e a b = accepted-once g (expected q number at) (block_where g s at) (before_where g s at) d e a.0 b.0
 
 next-refused : (g : Geometry) (s : PortState) (q number : ℕ) (at : PlaceIs) (newest : Option ℕ) (e f : ChainRefusal) → RefusesNext g s q number at newest e → RefusesNext g s q number at newest f → e ≡ f
 next-refused g s q number at newest _ _ (NextRefused c n r) (NextRefused d m t) =
-    ap (λ (x : DescriptorRefusal). AtDescriptor number x) (refuses-once g (expected q number at) (block_where g s at) c d r t n m)
-next-refused g s q number at newest _ _ (NextRefused c n r) (NextApart d a far) = absurd (n (accepted-refused g (expected q number at) (block_where g s at) d c a r))
-next-refused g s q number at newest _ _ (NextApart d a far) (NextRefused c n r) = absurd (n (accepted-refused g (expected q number at) (block_where g s at) d c a r))
+    ap (λ (x : DescriptorRefusal). AtDescriptor number x) (refuses-once g (expected q number at) (block_where g s at) (before_where g s at) c d r t n m)
+next-refused g s q number at newest _ _ (NextRefused c n r) (NextApart d a far) = absurd (n (accepted-refused g (expected q number at) (block_where g s at) (before_where g s at) d c a r))
+next-refused g s q number at newest _ _ (NextApart d a far) (NextRefused c n r) = absurd (n (accepted-refused g (expected q number at) (block_where g s at) (before_where g s at) d c a r))
 next-refused g s q number at newest _ _ (NextApart d a far) (NextApart e b long) =
-    ap (λ (x : Descriptor). Span (x.place - length x.logged) (unwrap_or newest x.place)) (accepted-once g (expected q number at) (block_where g s at) d e a b)
+    ap (λ (x : Descriptor). Span (first_place x) (unwrap_or newest x.place)) (accepted-once g (expected q number at) (block_where g s at) (before_where g s at) d e a b)
 
 next-apart : (g : Geometry) (s : PortState) (q number : ℕ) (at : PlaceIs) (newest : Option ℕ) (d : Descriptor) (e : ChainRefusal) → IsFoundNext g s q number at newest d → RefusesNext g s q number at newest e → ⊥
-next-apart g s q number at newest d _ a (NextRefused c n r) = n (accepted-refused g (expected q number at) (block_where g s at) d c a.0 r)
+next-apart g s q number at newest d _ a (NextRefused c n r) = n (accepted-refused g (expected q number at) (block_where g s at) (before_where g s at) d c a.0 r)
 next-apart g s q number at newest d _ a (NextApart e b far) =
-    let same = accepted-once g (expected q number at) (block_where g s at) e d b a.0 in
-    let long : (d.place - length d.logged) + area_of g ≤ unwrap_or newest d.place = subst (λ (x : Descriptor). (x.place - length x.logged) + area_of g ≤ unwrap_or newest x.place) same far in
+    let same = accepted-once g (expected q number at) (block_where g s at) (before_where g s at) e d b a.0 in
+    let long : (first_place d) + area_of g ≤ unwrap_or newest d.place = subst (λ (x : Descriptor). (first_place x) + area_of g ≤ unwrap_or newest x.place) same far in
     let near = a.1 in
     omega (arith, long, near)
 

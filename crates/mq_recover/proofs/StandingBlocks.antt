@@ -1,30 +1,40 @@
 -- What stands on the home blocks.
 use Rattle.std.proofs.Common.{◌≡◌, ◌<◌, ℕ, List, length, Option, None, get_or, sym, ◌∙◌, ap, subst, arith}
 use Rattle.mq_blocks.specs.Blocks.{block_at}
+use Rattle.mq_blocks.specs.Descriptor.{Descriptor}
 use Rattle.mq_blocks.specs.Drive.{PortState, IsApartFrom, IsCertain, index_of}
 use Rattle.mq_blocks.specs.Geometry.{homes_of, home_lba, zone_of}
 use Rattle.mq_blocks.specs.declared.geometry.Geometry.{Geometry}
 use Rattle.mq_ledger.specs.Sides.{home_index_in}
 use Rattle.mq_recover.specs.Drives.{DriveState, IsQuiescentPort, IsQuiescentDrive, view_over}
-use Rattle.mq_recover.specs.Plans.{IsFoundIn}
-use Rattle.mq_recover.specs.Standing.{newest_of, StandsIn}
+use Rattle.mq_recover.specs.Choices.{IsFoundIn}
+use Rattle.mq_recover.specs.Recovering.{AreStanding, newest_of}
+use Rattle.mq_recover.specs.Standing.{StandsIn}
 use Rattle.mq_recover.specs.declared.copies.CopyPlace.{CopyPlace}
-use Rattle.mq_recover.specs.declared.plan.Found.{Found}
+use Rattle.mq_recover.specs.declared.choice.Found.{Found}
 use Rattle.mq_recover.specs.declared.standing.Standing.{Standing}
+use Rattle.mq_recover.specs.Copies.{AreCopies}
+use Rattle.mq_recover.proofs.HomeWrites.{copies-at}
 use Rattle.mq_recover.proofs.RecoverCopies.{stands-copy}
 use Rattle.mq_recover.proofs.DrivesZones.{port_in, role_in, IsZone, still-in, placed-in, view-home}
 
--- what was read is what stands
-pub standing-of : (g : Geometry) (d : DriveState) (found : Found) (s : Standing) → IsFoundIn g d found → length s.blocks.items ≡ homes_of g
-    → ((b : ℕ) → b < homes_of g → block_at s.blocks.items b ≡ newest_of g d (get_or found.places.items b None) b) → s.prefix ≡ found.recovered.prefix → s.base ≡ d.root.base → s.top ≡ found.recovered.base → StandsIn g d s
-standing-of g d found s are whole blocks_are prefix_is base_is top_is = (
-  are.ds,
+-- what was read is what stands on the blocks
+pub blocks-standing : (g : Geometry) (d : DriveState) (copies : List (Option CopyPlace)) (blocks : List (Option (List ℕ))) → length blocks ≡ homes_of g
+    → ((b : ℕ) → b < homes_of g → block_at blocks b ≡ newest_of g d (get_or copies b None) b) → (ds : List Descriptor) → AreCopies g ds copies → AreStanding g d ds blocks
+blocks-standing g d copies blocks whole are ds copies_are = record {
+  whole = whole;
+  are = λ b below. are b below ∙ ap (λ (o : Option CopyPlace). newest_of g d o b) (copies-at g ds copies b copies_are) ∙ sym (stands-copy g (view_over g d) ds b);
+}
+
+pub standing-of : (g : Geometry) (d : DriveState) (found : Found) (s : Standing) → (is : IsFoundIn g d found) → AreStanding g d is.ds s.blocks.items → s.prefix ≡ found.recovered.prefix → s.base ≡ d.root.base → s.top ≡ found.recovered.base → StandsIn g d s
+standing-of g d found s is standing prefix_is base_is top_is = (
+  is.ds,
   found.recovered.base,
-  are.read,
+  is.read,
   record {
-    whole = whole;
-    blocks_are = λ b below. blocks_are b below ∙ ap (λ (o : Option CopyPlace). newest_of g d o b) (are.places_are b) ∙ sym (stands-copy g (view_over g d) are.ds b);
-    prefix_is = prefix_is ∙ are.prefix_is;
+    whole = standing.whole;
+    blocks_are = standing.are;
+    prefix_is = prefix_is ∙ is.prefix_is;
     base_is = base_is;
     top_is = top_is;
   },

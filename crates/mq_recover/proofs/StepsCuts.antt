@@ -15,7 +15,7 @@ use Rattle.mq_drive.specs.Start.{IsPortOf, area_size_of}
 use Rattle.mq_drive.specs.declared.role.Role.{Role}
 use Rattle.mq_recover.specs.Drives.{DriveState, IsQuiescentDrive}
 use Rattle.mq_recover.specs.RecoverHomes.{written, AreBelow}
-use Rattle.mq_recover.specs.Steps.{Event, BeginHome, EndHome, StoreBase, FlushBase, StoreHead, FlushHead, at_home, after_event, after_events, home_events, base_events, heads_events, recovery_events}
+use Rattle.mq_recover.specs.Events.{Event, BeginHome, EndHome, StoreBase, FlushBase, StoreHead, FlushHead, at_home, after_event, after_events, home_events, base_events, heads_events, recovery_events}
 use Rattle.mq_recover.proofs.RecoverHomes.{IsBetween, between-start, between-step, between-ports, next-written}
 use Rattle.mq_recover.proofs.DrivesStages.{IsSure, IsKept, AreKept, AreWordsKept, IsHeadMoving, words-heads, IsGoing, AreHome, IsRaising, IsMoving, IsStage}
 use Rattle.mq_recover.proofs.DrivesZones.{IsZone, port_in, role_in, home_in, zone-is, still-in, still-ports, ports-in, at-count, at-one, at-each, placed-at, place-apart}

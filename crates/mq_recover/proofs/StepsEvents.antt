@@ -13,7 +13,7 @@ use Rattle.mq_drive.specs.declared.role.Role.{Role}
 use Rattle.mq_drive.proofs.StartRolePorts.{begin-port, end-port, word-port, flush-port}
 use Rattle.mq_recover.specs.Drives.{DriveState, ArePorts}
 use Rattle.mq_recover.specs.RecoverHomes.{AreBelow, GivesHome, GivesOne}
-use Rattle.mq_recover.specs.Steps.{Event, BeginHome, EndHome, StoreBase, FlushBase, StoreHead, FlushHead, at_home, after_event, after_events, home_events, StopsAt}
+use Rattle.mq_recover.specs.Events.{Event, BeginHome, EndHome, StoreBase, FlushBase, StoreHead, FlushHead, at_home, after_event, after_events, home_events, StopsAt}
 use Rattle.mq_recover.specs.declared.refusal.RecoverRefusal.{RecoverRefusal}
 use Rattle.mq_recover.specs.declared.refusal.RecoverRefusal.TheVariants.{Image, Off, Failed}
 use Rattle.mq_recover.proofs.RecoverHomes.{homed, homed-ports}

@@ -12,7 +12,7 @@ use Rattle.mq_drive.specs.declared.role.Role.TheVariants.{Root}
 use Rattle.mq_drive.proofs.StartRolePorts.{word-port, flush-port}
 use Rattle.mq_recover.specs.Drives.{DriveState, at_queue, drive}
 use Rattle.mq_recover.specs.RecoverHomes.{after_raise, after_move, IsCutMove, AreCutMoves}
-use Rattle.mq_recover.specs.Steps.{Event, StoreHead, FlushHead, after_events, head_events, heads_events, StopsAt}
+use Rattle.mq_recover.specs.Events.{Event, StoreHead, FlushHead, after_events, head_events, heads_events, StopsAt}
 use Rattle.mq_recover.specs.declared.refusal.RecoverRefusal.TheVariants.{Off}
 use Rattle.mq_recover.proofs.StepsEvents.{after-then, off-after}
 

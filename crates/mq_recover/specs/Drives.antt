@@ -1,6 +1,6 @@
 -- The ports of a drive as recovery sees them, and what their images show.
 use Rattle.std.specs.Prelude.{◌≡◌, ◌<◌, ℕ, List, length, map, slice_set}
-use Rattle.mq_nvme.specs.Says.{says}
+use Rattle.mq_nvme.specs.Says.{journal_reading}
 use Rattle.mq_blocks.specs.Drive.{PortState, PortImage, IsBoundKept, IsImage, IsQuiescent, image_of}
 use Rattle.mq_blocks.specs.Journal.{Shown, shown, image_at}
 use Rattle.mq_blocks.specs.declared.geometry.Geometry.{Geometry}
@@ -36,7 +36,7 @@ at_root f d = drive d.queues (f d.root)
 
 -- what the images of the ports show, where each has one
 abbrev pub view_over : Geometry → DriveState → Shown
-view_over g d = shown says g (map image_of d.queues) (image_of d.root)
+view_over g d = shown journal_reading g (map image_of d.queues) (image_of d.root)
 
 pub record IsQuiescentPort (g : Geometry) (role : Role) (p : PortState) : Type 0 where
   pub port : IsPortOf g role p
@@ -57,7 +57,8 @@ pub record IsQuiescentDrive (g : Geometry) (d : DriveState) : Type 0 where
   pub ringless : HasWords Root (image_of d.root)
 
 -- this is what a power cut may leave of the drive
-pub record AreImages (g : Geometry) (d : DriveState) (queues : List PortImage) (root : PortImage) : Type 0 where
+pub record AreImages (g : Geometry) (d : DriveState) (queues : List PortImage)
+    (root : PortImage) : Type 0 where
   pub each : (q : ℕ) → q < g.queues → IsImage (port_at d.queues q) (image_at queues q)
   pub root_is : IsImage d.root root
 

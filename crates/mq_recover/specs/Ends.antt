@@ -1,12 +1,10 @@
 -- The ends of chains, which are their oldest transactions.
-use Rattle.std.specs.Prelude.{◌≡◌, ◌≢◌, ◌<◌, ◌≤◌, ℕ, ◌-◌, List, [], length, Some, MatchOption, slice_get, slice_index_or}
+use Rattle.std.specs.Prelude.{◌≡◌, ◌≢◌, ◌<◌, ◌≤◌, ℕ, ◌-◌, List, [], length, Some, MatchOption, slice_get}
 use Rattle.mq_blocks.specs.Descriptor.{Descriptor}
+use Rattle.mq_recover.specs.Recover.{chain_at}
 use Rattle.mq_recover.specs.declared.oldest.Least.{Least}
 use Rattle.mq_recover.specs.declared.refusal.ImageFault.{ImageFault}
 use Rattle.mq_recover.specs.declared.refusal.ImageFault.TheVariants as fault
-
-abbrev pub chain_at : List (List Descriptor) → ℕ → List Descriptor
-chain_at chains q = slice_index_or chains q []
 
 -- the chain ends with this number
 abbrev pub EndsWith : List Descriptor → ℕ → Type 0
@@ -22,7 +20,8 @@ IsLeastEnd count chains number = (q n : ℕ) → q < count → EndsWith (chain_a
 
 -- among these chains no other ends with the number
 abbrev pub IsAlone : (count : ℕ) → List (List Descriptor) → (number first : ℕ) → Type 0
-IsAlone count chains number first = (q : ℕ) → q < count → q ≢ first → EndsWith (chain_at chains q) number → ⊥
+IsAlone count chains number first =
+    (q : ℕ) → q < count → q ≢ first → EndsWith (chain_at chains q) number → ⊥
 
 -- this is the next after the first that ends with the number
 pub record IsNext (count : ℕ) (chains : List (List Descriptor)) (number first second : ℕ) : Type 0 where
@@ -36,7 +35,8 @@ pub record IsLeast (count : ℕ) (chains : List (List Descriptor)) (l : Least) :
   pub within : l.first < count
   pub ends : EndsWith (chain_at chains l.first) l.number
   pub least : IsLeastEnd count chains l.number
-  pub second : MatchOption l.second (IsAlone count chains l.number l.first) (IsNext count chains l.number l.first)
+  pub second : MatchOption l.second (IsAlone count chains l.number l.first)
+      (IsNext count chains l.number l.first)
 
 -- one chain ends with the least number, and no other with the same
 pub record IsOldest (chains : List (List Descriptor)) (q : ℕ) : Type 0 where

@@ -1,9 +1,15 @@
+pub mod Choices
+pub mod Copies
 pub mod Drives
 pub mod Ends
-pub mod Plans
+pub mod Events
+pub mod Images
+pub mod Merges
+pub mod Queues
 pub mod Recover
 pub mod RecoverCauses
 pub mod RecoverHomes
+pub mod Recovering
 pub mod Recovery
 pub mod Refusals
 pub mod Standing

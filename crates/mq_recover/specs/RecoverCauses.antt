@@ -10,7 +10,8 @@ use Rattle.mq_recover.specs.declared.refusal.RecoverRefusal.{RecoverRefusal}
 use Rattle.mq_recover.specs.declared.refusal.RecoverRefusal.TheVariants.{Image, Off, Failed}
 
 -- a refusal is one more fault of the port, and an Ok is none
-abbrev pub HasHomeCause : {A : Type 0} → Geometry → Result A RecoverRefusal → (old new : List PortFault) → Type 0
+abbrev pub HasHomeCause : {A : Type 0} → Geometry → Result A RecoverRefusal → (old new : List PortFault)
+    → Type 0
 HasHomeCause g (Ok _) old new = new ≡ old
 HasHomeCause g (Err (Image _)) old new = ⊥
 HasHomeCause g (Err Off) old new = Gains PowerOff old new
@@ -20,20 +21,26 @@ HasHomeCause g (Err (Failed block status)) old new = Gains (HomeError (home_lba 
 abbrev pub OneGains : Option ℕ → PortFault → (old new : DriveFaults) → Type 0
 OneGains None f old new = (new.queues ≡ old.queues) × Gains f old.root new.root
 OneGains (Some q) f old new =
-    (q < length old.queues) × (faults : List PortFault) × Gains f (slice_index_or old.queues q []) faults × (new.queues ≡ slice_set old.queues q faults) × (new.root ≡ old.root)
+    (q < length old.queues) × (faults : List PortFault)
+    × Gains f (slice_index_or old.queues q []) faults × (new.queues ≡ slice_set old.queues q faults)
+    × (new.root ≡ old.root)
 
 -- A refusal of the drive is one more fault of one port, of a home write that of the block's zone;
 -- else there is none.
-abbrev pub HasDriveCause : {A : Type 0} → Geometry → Result A RecoverRefusal → (old new : DriveFaults) → Type 0
+abbrev pub HasDriveCause : {A : Type 0} → Geometry → Result A RecoverRefusal → (old new : DriveFaults)
+    → Type 0
 HasDriveCause g (Ok _) old new = new ≡ old
 HasDriveCause g (Err (Image _)) old new = new ≡ old
 HasDriveCause g (Err Off) old new = (port : Option ℕ) × OneGains port PowerOff old new
-HasDriveCause g (Err (Failed block status)) old new = OneGains (zone_of g block) (HomeError (home_lba g block) status) old new
+HasDriveCause g (Err (Failed block status)) old new =
+    OneGains (zone_of g block) (HomeError (home_lba g block) status) old new
 
 -- a refusal is one more fault of one of these queues, and an Ok is none
 abbrev pub HasMoveCause : {A : Type 0} → Result A IsOff → (old new : List (List PortFault)) → Type 0
 HasMoveCause (Ok _) old new = new ≡ old
-HasMoveCause (Err _) old new = (q : ℕ) × (q < length old) × (faults : List PortFault) × Gains PowerOff (slice_index_or old q []) faults × (new ≡ slice_set old q faults)
+HasMoveCause (Err _) old new =
+    (q : ℕ) × (q < length old) × (faults : List PortFault)
+    × Gains PowerOff (slice_index_or old q []) faults × (new ≡ slice_set old q faults)
 
 -- this holds of the fault after a refusal of the image
 abbrev pub OnImage : {A : Type 0} → Result A RecoverRefusal → (ImageFault → Type 0) → Type 0

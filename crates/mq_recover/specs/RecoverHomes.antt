@@ -14,7 +14,8 @@ use Rattle.mq_recover.specs.declared.refusal.RecoverRefusal.TheVariants.{Image, 
 abbrev pub writes_from : (ℕ → ℕ → List ℕ) → ℕ → ℕ → List (Option CopyPlace) → Writes
 writes_from area size b [] = []
 writes_from area size b (None ∷ copies) = writes_from area size (b + 1) copies
-writes_from area size b (Some source ∷ copies) = (b, area source.queue (source.place % size)) ∷ writes_from area size (b + 1) copies
+writes_from area size b (Some source ∷ copies) =
+    (b, area source.queue (source.place % size)) ∷ writes_from area size (b + 1) copies
 
 -- what is last written to a block
 abbrev pub written : Writes → ℕ → Option (List ℕ)
@@ -31,16 +32,21 @@ abbrev pub after_home : PortState → ℕ → List ℕ → PortState
 after_home s lba block = after_end (after_begin s lba block) lba block
 
 -- a home write through a port ended, or was refused before it began or after
-abbrev pub GivesHome : {A : Type 0} → Geometry → (s : PortState) → ℕ → List ℕ → Result A RecoverRefusal → (t : PortState) → Type 0
+abbrev pub GivesHome : {A : Type 0} → Geometry → (s : PortState) → ℕ → List ℕ → Result A RecoverRefusal
+    → (t : PortState) → Type 0
 GivesHome g s b block (Ok _) t = t ≡ after_home s (home_lba g b) block
 GivesHome g s b block (Err (Image _)) t = ⊥
 GivesHome g s b block (Err Off) t = (t ≡ s) ⊎ (t ≡ after_begin s (home_lba g b) block)
 GivesHome g s b block (Err (Failed c _)) t = (c ≡ b) × (t ≡ after_begin s (home_lba g b) block)
 
 -- the same through the port of the block's zone
-abbrev pub GivesOne : {A : Type 0} → Geometry → Option ℕ → (old : DriveState) → ℕ → List ℕ → Result A RecoverRefusal → (new : DriveState) → Type 0
-GivesOne g None old b block result new = (t : PortState) × GivesHome g old.root b block result t × (new ≡ at_root (λ _. t) old)
-GivesOne g (Some q) old b block result new = (t : PortState) × GivesHome g (port_at old.queues q) b block result t × (new ≡ at_queue q (λ _. t) old)
+abbrev pub GivesOne : {A : Type 0} → Geometry → Option ℕ → (old : DriveState) → ℕ → List ℕ
+    → Result A RecoverRefusal → (new : DriveState) → Type 0
+GivesOne g None old b block result new =
+    (t : PortState) × GivesHome g old.root b block result t × (new ≡ at_root (λ _. t) old)
+GivesOne g (Some q) old b block result new =
+    (t : PortState) × GivesHome g (port_at old.queues q) b block result t
+    × (new ≡ at_queue q (λ _. t) old)
 
 -- the base word is stored and flushed where it changes
 abbrev pub after_raise : PortState → ℕ → PortState
@@ -64,4 +70,6 @@ pub record CanMove (s : PortState) : Type 0 where
 
 -- the heads before one went to their doorbells, this one was refused, and those after it are as before
 abbrev pub AreCutMoves : (olds news : List PortState) → Type 0
-AreCutMoves olds news = (q : ℕ) × (q < length olds) × (t : PortState) × IsCutMove (port_at olds q) t × (news ≡ map after_move (take q olds) ++ t ∷ drop (q + 1) olds)
+AreCutMoves olds news =
+    (q : ℕ) × (q < length olds) × (t : PortState) × IsCutMove (port_at olds q) t
+    × (news ≡ map after_move (take q olds) ++ t ∷ drop (q + 1) olds)

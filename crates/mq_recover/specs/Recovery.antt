@@ -1,45 +1,36 @@
--- What recovery makes of the ports of a drive.
+-- What an image stands for by the transactions right above its base, and the start of a journal.
 use Rattle.std.specs.Prelude.{◌≡◌, ◌⊎◌, ◌<◌, ℕ, ◌^◌, ◌-◌, List, [], length, map, replicate, Option, Some, None, slice_index_or}
-use Rattle.mq_nvme.specs.Says.{says}
-use Rattle.mq_blocks.specs.Descriptor.{Descriptor}
+use Rattle.mq_nvme.specs.Says.{journal_reading}
+use Rattle.mq_blocks.specs.Descriptor.{Descriptor, journal_form}
 use Rattle.mq_blocks.specs.Drive.{PortState, PortImage}
 use Rattle.mq_blocks.specs.Geometry.{homes_of}
 use Rattle.mq_blocks.specs.Journal.{Shown, shown, AreWhole, IsPrefix, IsTop, stands}
 use Rattle.mq_blocks.specs.declared.geometry.Geometry.{Geometry}
 use Rattle.mq_ledger.specs.State.{State, IsStart, port_at}
-use Rattle.mq_recover.specs.Drives.{DriveState, IsQuiescentDrive, AreImages, view_over}
+use Rattle.mq_recover.specs.Drives.{DriveState, AreImages, view_over}
 use Rattle.mq_ledger.specs.Written.{journal_entries}
 
 -- An image is readable: the descriptors of its prefix, newest first, and the greatest number that it
 -- shows.
 pub record IsReadPrefix (g : Geometry) (i : Shown) (ds : List Descriptor) (top : ℕ) : Type 0 where
+  pub form_is : i.form ≡ journal_form
   pub chains : ℕ → List Descriptor
   pub whole : AreWhole g i chains
   pub prefix : IsPrefix g i chains ds
   pub top_is : IsTop g i chains top
 
--- a queue's head is at its doorbell, which is where it was
-pub record IsAtDoorbell (old new : PortState) : Type 0 where
-  pub head : new.head ≡ new.doorbell
-  pub doorbell : new.doorbell ≡ old.doorbell
-
--- The home blocks hold what stood before by these descriptors, the base is the greatest number that
--- the image showed, and the heads are at the doorbells.
-pub record IsRecovered (g : Geometry) (old : DriveState) (ds : List Descriptor) (top : ℕ) (new : DriveState) : Type 0 where
-  pub still : IsQuiescentDrive g new
-  pub homes : (b : ℕ) → b < homes_of g → (view_over g new).home b ≡ stands g (view_over g old) ds b
-  pub base : new.root.base ≡ top
-  pub heads : (q : ℕ) → q < g.queues → IsAtDoorbell (port_at old.queues q) (port_at new.queues q)
-
 -- Each image of the ports is readable, shows the same greatest number, and stands for what stood
 -- before by these descriptors: by the same ones over the old base, or at home alone over the greatest
 -- number.
-abbrev pub StandsAs : (g : Geometry) (old : DriveState) (ds : List Descriptor) (top : ℕ) (new : DriveState) → Type 0
+abbrev pub StandsAs : (g : Geometry) (old : DriveState) (ds : List Descriptor) (top : ℕ)
+    (new : DriveState)
+    → Type 0
 StandsAs g old ds top new =
     (queues : List PortImage) (root : PortImage) → AreImages g new queues root
-    → (es : List Descriptor) × IsReadPrefix g (shown says g queues root) es top
+    → (es : List Descriptor) × IsReadPrefix g (shown journal_reading g queues root) es top
     × (((root.base ≡ old.root.base) × (es ≡ ds)) ⊎ ((root.base ≡ top) × (es ≡ [])))
-    × ((b : ℕ) → b < homes_of g → stands g (shown says g queues root) es b ≡ stands g (view_over g old) ds b)
+    × ((b : ℕ) → b < homes_of g
+    → stands g (shown journal_reading g queues root) es b ≡ stands g (view_over g old) ds b)
 
 -- ---- the start of a journal
 
@@ -62,5 +53,6 @@ started g d start = record {
 abbrev pub IsStartDrive : Geometry → DriveState → Type 0
 IsStartDrive g d =
     (start : List (Option (List ℕ))) → length start ≡ homes_of g
-    → ((x : ℕ) (content : List ℕ) → x < homes_of g → slice_index_or start x None ≡ Some content → (view_over g d).home x ≡ content)
+    → ((x : ℕ) (content : List ℕ) → x < homes_of g → slice_index_or start x None ≡ Some content
+    → (view_over g d).home x ≡ content)
     → IsStart journal_entries (started g d start)

@@ -1,12 +1,13 @@
--- Why the image of a drive is not readable. Each cause is the first in the order of the
+-- Why a queue of a drive is not readable. Each cause is the first in the order of the
 -- tests, and says what was found.
 use Rattle.std.specs.Prelude.{◌≡◌, ◌≢◌, ◌⊎◌, ◌<◌, ◌≤◌, ℕ, ◌+◌, ◌-◌, ◌%◌, Bool, true, false, List, [], ◌∷◌, length, Option, Some, None, slice_index_or}
 use Rattle.std.specs.Option.{unwrap_or}
 use Rattle.mq_blocks.specs.Blocks.{block_at}
-use Rattle.mq_blocks.specs.Descriptor.{Descriptor}
-use Rattle.mq_blocks.specs.Drive.{PortState, depth, usable_depth}
+use Rattle.mq_blocks.specs.Limits.{depth, usable_depth}
+use Rattle.mq_blocks.specs.Descriptor.{Descriptor, first_place}
+use Rattle.mq_blocks.specs.Drive.{PortState}
 use Rattle.mq_blocks.specs.Geometry.{area_lba, area_of}
-use Rattle.mq_blocks.specs.Journal.{Has, WriteFields, number_limit}
+use Rattle.mq_blocks.specs.Journal.{WriteFields, number_limit}
 use Rattle.mq_blocks.specs.declared.geometry.Geometry.{Geometry}
 use Rattle.mq_nvme.specs.Entry.{refusal_of}
 use Rattle.mq_nvme.specs.Says.{says}
@@ -19,7 +20,6 @@ use Rattle.mq_area.specs.declared.refusal.DescriptorRefusal.{DescriptorRefusal}
 use Rattle.mq_area.specs.declared.refusal.DescriptorRefusal.TheVariants as descriptor
 use Rattle.mq_ledger.specs.State.{port_at}
 use Rattle.mq_recover.specs.Drives.{DriveState}
-use Rattle.mq_recover.specs.Ends.{chain_at}
 use Rattle.mq_recover.specs.Recover.{IsWithinReach, where_of}
 use Rattle.mq_recover.specs.declared.refusal.ChainRefusal.{ChainRefusal}
 use Rattle.mq_recover.specs.declared.refusal.ChainRefusal.TheVariants.{Words, Entry, Commit, AreaPlace, Descriptor as AtDescriptor, Span, Limit}
@@ -32,7 +32,8 @@ entry_at s count = slice_index_or s.flushed (count % depth) []
 
 -- the slot of this count holds no request
 abbrev pub RefusesEntry : PortState → (count : ℕ) → ChainRefusal → Type 0
-RefusesEntry s count e = (cause : EntryRefusal) × (e ≡ Entry cause) × (refusal_of (entry_at s count) ≡ Some cause)
+RefusesEntry s count e =
+    (cause : EntryRefusal) × (e ≡ Entry cause) × (refusal_of (entry_at s count) ≡ Some cause)
 
 -- ---- the words of a queue
 
@@ -51,9 +52,13 @@ pub record IsNewest (s : PortState) (number lba : ℕ) : Type 0 where
 
 -- the first cause for which there is none
 pub data RefusesNewest (s : PortState) : ChainRefusal → Type 0 where
-  NewestEntry : (cause : EntryRefusal) → 0 < s.head → refusal_of (entry_at s (s.head - 1)) ≡ Some cause → RefusesNewest s (Entry cause)
-  NewestCommit : (number lba : ℕ) → 0 < s.head → says (entry_at s (s.head - 1)) ≡ Some (number, lba, false) → RefusesNewest s Commit
-  NewestLimit : (number lba : ℕ) → 0 < s.head → says (entry_at s (s.head - 1)) ≡ Some (number, lba, true) → number_limit < number → RefusesNewest s (Limit number)
+  NewestEntry : (cause : EntryRefusal) → 0 < s.head → refusal_of (entry_at s (s.head - 1)) ≡ Some cause
+      → RefusesNewest s (Entry cause)
+  NewestCommit : (number lba : ℕ) → 0 < s.head
+      → says (entry_at s (s.head - 1)) ≡ Some (number, lba, false) → RefusesNewest s Commit
+  NewestLimit : (number lba : ℕ) → 0 < s.head
+      → says (entry_at s (s.head - 1)) ≡ Some (number, lba, true) → number_limit < number
+      → RefusesNewest s (Limit number)
 
 -- ---- the chain
 
@@ -64,24 +69,39 @@ expected q number at = record { queue = q; number = number; place = at }
 abbrev pub block_where : Geometry → PortState → PlaceIs → List ℕ
 block_where g s at = block_at s.blocks (where_of at % area_of g)
 
+-- the block before it in the area
+abbrev pub before_where : Geometry → PortState → PlaceIs → List ℕ
+before_where g s at = block_at s.blocks ((where_of at % area_of g + (area_of g - 1)) % area_of g)
+
 -- the descriptor that is expected stands there, in reach of the newest place
-abbrev pub IsFoundNext : (g : Geometry) (s : PortState) (q number : ℕ) → PlaceIs → (newest : Option ℕ) → Descriptor → Type 0
-IsFoundNext g s q number at newest d = Accepts g (expected q number at) (block_where g s at) d × IsWithinReach g newest d
+abbrev pub IsFoundNext : (g : Geometry) (s : PortState) (q number : ℕ) → PlaceIs → (newest : Option ℕ)
+    → Descriptor → Type 0
+IsFoundNext g s q number at newest d =
+    Accepts g (expected q number at) (block_where g s at) (before_where g s at) d
+    × IsWithinReach g newest d
 
 -- From the descriptor that is expected first on, these were found, the newest first, each as its
 -- successor names it and in reach of the newest; then another is expected.
-abbrev pub AreFound : (g : Geometry) (s : PortState) (q base number : ℕ) → PlaceIs → (newest : Option ℕ) → List Descriptor → (next : ℕ) → PlaceIs → Option ℕ → Type 0
-AreFound g s q base number at newest [] next next_at next_newest = (next ≡ number) × (next_at ≡ at) × (next_newest ≡ newest)
+abbrev pub AreFound : (g : Geometry) (s : PortState) (q base number : ℕ) → PlaceIs → (newest : Option ℕ)
+    → List Descriptor → (next : ℕ) → PlaceIs → Option ℕ → Type 0
+AreFound g s q base number at newest [] next next_at next_newest =
+    (next ≡ number) × (next_at ≡ at) × (next_newest ≡ newest)
 AreFound g s q base number at newest (d ∷ ds) next next_at next_newest =
     (base < number) × IsFoundNext g s q number at newest d
-    × AreFound g s q base d.prev_number (Exact d.prev_place) (Some (unwrap_or newest d.place)) ds next next_at next_newest
+    × AreFound g s q base d.prev_number (Exact d.prev_place)
+    (Some (unwrap_or newest d.place)) ds next next_at next_newest
 
 -- the descriptor that is expected is refused, or out of reach
-pub data RefusesNext (g : Geometry) (s : PortState) (q number : ℕ) (at : PlaceIs) (newest : Option ℕ) : ChainRefusal → Type 0 where
-  NextRefused : (cause : DescriptorRefusal) → cause ≢ descriptor.OutOfMemory → Refuses g (expected q number at) (block_where g s at) cause
+pub data RefusesNext (g : Geometry) (s : PortState) (q number : ℕ) (at : PlaceIs)
+    (newest : Option ℕ) : ChainRefusal
+    → Type 0 where
+  NextRefused : (cause : DescriptorRefusal) → cause ≢ descriptor.OutOfMemory
+      → Refuses g (expected q number at) (block_where g s at) (before_where g s at) cause
       → RefusesNext g s q number at newest (AtDescriptor number cause)
-  NextApart : (d : Descriptor) → Accepts g (expected q number at) (block_where g s at) d → (d.place - length d.logged) + area_of g ≤ unwrap_or newest d.place
-      → RefusesNext g s q number at newest (Span (d.place - length d.logged) (unwrap_or newest d.place))
+  NextApart : (d : Descriptor)
+      → Accepts g (expected q number at) (block_where g s at) (before_where g s at) d
+      → first_place d + area_of g ≤ unwrap_or newest d.place
+      → RefusesNext g s q number at newest (Span (first_place d) (unwrap_or newest d.place))
 
 -- the Lba is this index of the queue's journal area
 abbrev pub IsIndex : Geometry → (q lba index : ℕ) → Type 0
@@ -90,15 +110,20 @@ IsIndex g q lba index = (lba ≡ area_lba g q index) × (index < area_of g)
 -- The chain from the newest number on: its Lba is not in the queue's area, or some descriptor of the
 -- chain is refused after those before it were found.
 pub data RefusesChain (g : Geometry) (s : PortState) (q base number lba : ℕ) : ChainRefusal → Type 0 where
-  ChainOutside : base < number → ((place : ℕ) → lba ≡ area_lba g q place → ⊥) → RefusesChain g s q base number lba (AreaPlace lba)
-  ChainStopped : {cause : ChainRefusal} (index : ℕ) (ds : List Descriptor) (next : ℕ) (at : PlaceIs) (newest : Option ℕ) → base < number → IsIndex g q lba index
-      → AreFound g s q base number (Index index) None ds next at newest → base < next → RefusesNext g s q next at newest cause → RefusesChain g s q base number lba cause
+  ChainOutside : base < number → ((place : ℕ) → lba ≡ area_lba g q place → ⊥)
+      → RefusesChain g s q base number lba (AreaPlace lba)
+  ChainStopped : {cause : ChainRefusal} (index : ℕ) (ds : List Descriptor) (next : ℕ) (at : PlaceIs)
+      (newest : Option ℕ)
+      → base < number → IsIndex g q lba index
+      → AreFound g s q base number (Index index) None ds next at newest → base < next
+      → RefusesNext g s q next at newest cause → RefusesChain g s q base number lba cause
 
 -- the whole chain was found
 abbrev pub IsWholeChain : (g : Geometry) (s : PortState) (q base number lba : ℕ) → List Descriptor → Type 0
 IsWholeChain g s q base number lba ds =
     ((number ≤ base) × (ds ≡ []))
-    ⊎ ((base < number) × (index : ℕ) × IsIndex g q lba index × (next : ℕ) × (at : PlaceIs) × (newest : Option ℕ)
+    ⊎ ((base < number) × (index : ℕ) × IsIndex g q lba index × (next : ℕ) × (at : PlaceIs)
+    × (newest : Option ℕ)
     × AreFound g s q base number (Index index) None ds next at newest × (next ≤ base))
 
 -- ---- the entries from head to doorbell
@@ -112,23 +137,32 @@ AreRung s from to = (count : ℕ) → from ≤ count → count < to → IsRung s
 
 -- where there are entries, the last is a commit request
 abbrev pub IsRungWhole : PortState → Type 0
-IsRungWhole s = s.head < s.doorbell → (number : ℕ) × (lba : ℕ) × (says (entry_at s (s.doorbell - 1)) ≡ Some (number, lba, true))
+IsRungWhole s =
+    s.head < s.doorbell
+    → (number : ℕ) × (lba : ℕ) × (says (entry_at s (s.doorbell - 1)) ≡ Some (number, lba, true))
 
 -- the entry of a count is not such a request
 pub data RefusesRequest (s : PortState) (count : ℕ) : ChainRefusal → Type 0 where
-  RequestEntry : (cause : EntryRefusal) → refusal_of (entry_at s count) ≡ Some cause → RefusesRequest s count (Entry cause)
-  RequestLimit : (number lba : ℕ) (commit : Bool) → says (entry_at s count) ≡ Some (number, lba, commit) → number_limit < number → RefusesRequest s count (Limit number)
+  RequestEntry : (cause : EntryRefusal) → refusal_of (entry_at s count) ≡ Some cause
+      → RefusesRequest s count (Entry cause)
+  RequestLimit : (number lba : ℕ) (commit : Bool) → says (entry_at s count) ≡ Some (number, lba, commit)
+      → number_limit < number → RefusesRequest s count (Limit number)
 
 -- the first cause for which the entries from head to doorbell are not readable: one of them, by
 -- rising count, and then that the last is no commit request
 pub data RefusesRung (s : PortState) : ChainRefusal → Type 0 where
-  RungStopped : {cause : ChainRefusal} (count : ℕ) → s.head ≤ count → count < s.doorbell → AreRung s s.head count → RefusesRequest s count cause → RefusesRung s cause
-  RungCommit : (number lba : ℕ) → s.head < s.doorbell → AreRung s s.head s.doorbell → says (entry_at s (s.doorbell - 1)) ≡ Some (number, lba, false) → RefusesRung s Commit
+  RungStopped : {cause : ChainRefusal} (count : ℕ) → s.head ≤ count → count < s.doorbell
+      → AreRung s s.head count → RefusesRequest s count cause → RefusesRung s cause
+  RungCommit : (number lba : ℕ) → s.head < s.doorbell → AreRung s s.head s.doorbell
+      → says (entry_at s (s.doorbell - 1)) ≡ Some (number, lba, false) → RefusesRung s Commit
 
 -- the greatest number of the entries from one count on and below another, or 0 where there are none
 pub record IsGreatest (s : PortState) (from to number : ℕ) : Type 0 where
-  pub above : (count : ℕ) (r : WriteFields) → from ≤ count → count < to → says (entry_at s count) ≡ Some r → r.0 ≤ number
-  pub shown : (number ≡ 0) ⊎ ((count : ℕ) × (r : WriteFields) × (from ≤ count) × (count < to) × (says (entry_at s count) ≡ Some r) × (r.0 ≡ number))
+  pub above : (count : ℕ) (r : WriteFields) → from ≤ count → count < to
+      → says (entry_at s count) ≡ Some r → r.0 ≤ number
+  pub shown : (number ≡ 0)
+      ⊎ ((count : ℕ) × (r : WriteFields) × (from ≤ count) × (count < to)
+      × (says (entry_at s count) ≡ Some r) × (r.0 ≡ number))
 
 -- ---- a queue
 
@@ -147,57 +181,25 @@ pub record IsReadable (g : Geometry) (s : PortState) (q base : ℕ) (ds : List D
 pub data RefusesQueue (g : Geometry) (s : PortState) (q base : ℕ) : ChainRefusal → Type 0 where
   QueueWords : (AreWords s → ⊥) → RefusesQueue g s q base Words
   QueueNewest : {cause : ChainRefusal} → AreWords s → RefusesNewest s cause → RefusesQueue g s q base cause
-  QueueChain : {cause : ChainRefusal} (number lba : ℕ) → AreWords s → IsNewest s number lba → RefusesChain g s q base number lba cause → RefusesQueue g s q base cause
-  QueueRung : {cause : ChainRefusal} (number lba : ℕ) (ds : List Descriptor) → AreWords s → IsNewest s number lba → IsWholeChain g s q base number lba ds → RefusesRung s cause → RefusesQueue g s q base cause
+  QueueChain : {cause : ChainRefusal} (number lba : ℕ) → AreWords s → IsNewest s number lba
+      → RefusesChain g s q base number lba cause → RefusesQueue g s q base cause
+  QueueRung : {cause : ChainRefusal} (number lba : ℕ) (ds : List Descriptor) → AreWords s
+      → IsNewest s number lba → IsWholeChain g s q base number lba ds → RefusesRung s cause
+      → RefusesQueue g s q base cause
 
 -- ---- a drive
 
 -- the queues below this one are readable over the base, and these are their chains
-abbrev pub AreReadable : (g : Geometry) (d : DriveState) (queues : ℕ) (chains : ℕ → List Descriptor) → Type 0
-AreReadable g d queues chains = (q : ℕ) → q < queues → IsReadable g (port_at d.queues q) q d.root.base (chains q)
-
--- a descriptor of this number is among them
-abbrev pub HasNumber : List Descriptor → ℕ → Type 0
-HasNumber ds number = (d : Descriptor) × Has ds d × (d.number ≡ number)
-
--- the least number that stands in the chains of two queues, and the two least queues in whose chains
--- it stands
-pub record IsTwice (queues : ℕ) (chains : ℕ → List Descriptor) (number first second : ℕ) : Type 0 where
-  pub order : first < second
-  pub within : second < queues
-  pub in_first : HasNumber (chains first) number
-  pub in_second : HasNumber (chains second) number
-  pub least : (n q r : ℕ) → q < r → r < queues → HasNumber (chains q) n → HasNumber (chains r) n → number ≤ n
-  pub others : (q : ℕ) → q < second → q ≢ first → HasNumber (chains q) number → ⊥
-
--- a number stands in two of these chains
-abbrev pub RefusesTwice : List (List Descriptor) → ImageFault → Type 0
-RefusesTwice chains (fault.Twice number first second) = IsTwice (length chains) (chain_at chains) number first second
-RefusesTwice chains (fault.Bad q cause) = ⊥
-RefusesTwice chains (fault.Limit base) = ⊥
-RefusesTwice chains fault.OutOfMemory = ⊥
+abbrev pub AreReadable : (g : Geometry) (d : DriveState) (queues : ℕ) (chains : ℕ → List Descriptor)
+    → Type 0
+AreReadable g d queues chains =
+    (q : ℕ) → q < queues → IsReadable g (port_at d.queues q) q d.root.base (chains q)
 
 -- the first queue that is not readable, by rising queue
 abbrev pub RefusesSome : (g : Geometry) (d : DriveState) → ImageFault → Type 0
 RefusesSome g d (fault.Bad q cause) =
-    (q < g.queues) × (chains : ℕ → List Descriptor) × AreReadable g d q chains × RefusesQueue g (port_at d.queues q) q d.root.base cause
+    (q < g.queues) × (chains : ℕ → List Descriptor) × AreReadable g d q chains
+    × RefusesQueue g (port_at d.queues q) q d.root.base cause
 RefusesSome g d (fault.Limit base) = ⊥
 RefusesSome g d (fault.Twice number first second) = ⊥
 RefusesSome g d fault.OutOfMemory = ⊥
-
--- The first cause for which the image of a drive is not readable: the base, the queues in rising
--- order, and then a number that stands in two chains.
-abbrev pub RefusesImage : (g : Geometry) (d : DriveState) → ImageFault → Type 0
-RefusesImage g d (fault.Limit base) = (base ≡ d.root.base) × (number_limit < base)
-RefusesImage g d (fault.Bad q cause) = (d.root.base ≤ number_limit) × RefusesSome g d (fault.Bad q cause)
-RefusesImage g d (fault.Twice number first second) =
-    (d.root.base ≤ number_limit) × (chains : ℕ → List Descriptor) × AreReadable g d g.queues chains × IsTwice g.queues chains number first second
-RefusesImage g d fault.OutOfMemory = ⊥
-
--- The image of a drive is readable: its base is within the limit, each queue is readable over the
--- base, and no number stands in the chains of two queues.
-pub record IsReadableImage (g : Geometry) (d : DriveState) : Type 0 where
-  pub limit : d.root.base ≤ number_limit
-  pub chains : ℕ → List Descriptor
-  pub readable : AreReadable g d g.queues chains
-  pub once : (q r number : ℕ) → q < r → r < g.queues → HasNumber (chains q) number → HasNumber (chains r) number → ⊥

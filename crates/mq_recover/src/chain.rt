@@ -1,9 +1,10 @@
 // The chain of a queue.
-ghost use Rattle.std.specs.Prelude.{◌≡◌, ◌≢◌, ◌⊎◌, ◌<◌, ◌≤◌, ◌-◌, ◌%◌, ℕ, List, [], length, IfOk, IfErr, IsErrOf, IsOk, Some, true, slice_index_or};
+ghost use Rattle.std.specs.Prelude.{◌≡◌, ◌≢◌, ◌⊎◌, ◌<◌, ◌≤◌, ◌+◌, ◌-◌, ◌%◌, ℕ, List, [], length, IfOk, IfErr, IsErrOf, IsOk, Some, true, slice_index_or};
+ghost use Rattle.mq_blocks.specs.Limits.{depth, list_limit};
 ghost use Rattle.std.specs.Prelude.{MatchOption, MatchResult};
 ghost use Rattle.mq_blocks.specs.Blocks.{block_at};
-ghost use Rattle.mq_blocks.specs.Descriptor.{Descriptor as Text};
-ghost use Rattle.mq_blocks.specs.Drive.{IsQuiescent, depth};
+ghost use Rattle.mq_blocks.specs.Descriptor.{Descriptor as Text, first_place, further};
+ghost use Rattle.mq_blocks.specs.Drive.{IsQuiescent};
 ghost use Rattle.mq_blocks.specs.Geometry.{queues_of, area_of, area_lba};
 ghost use Rattle.mq_blocks.specs.Journal.{Shown, IsQueueChain};
 ghost use Rattle.mq_nvme.specs.Says.{says};
@@ -14,7 +15,7 @@ ghost use Rattle.mq_recover.specs.Refusals.{RefusesEntry, RefusesNewest, Refuses
 
 use crate::refusal::ChainRefusal;
 use mq_area::{Descriptor, DescriptorRefusal, Expect, PlaceIs, read_descriptor};
-use mq_blocks::{Block, Geometry, QueueNo, RING_DEPTH, TxNo, USABLE_DEPTH};
+use mq_blocks::{Block, Geometry, QueueNo, RING_DEPTH, TxNo, USABLE_DEPTH, further_blocks};
 use mq_drive::{Port, Role};
 use mq_nvme::{WriteReq, read_write};
 use std::alloc::Global;
@@ -31,7 +32,7 @@ pub struct Chain {
 
 impl Model for Chain {
     ghost use Rattle.std.specs.Prelude.{List};
-    ghost use Rattle.mq_blocks.specs.Descriptor.{Descriptor as Text};
+    ghost use Rattle.mq_blocks.specs.Descriptor.{Descriptor as Text, first_place, further};
 
     ghost Value = { List Text };
 
@@ -276,6 +277,7 @@ fn follow_from<P: Port>(
         ⊎ RefusesChain geometry (P.state port.now) queue base start.number start.lba e) }
 {
     let mut block = Block::zeroed(alloc)?;
+    let mut before = Block::zeroed(alloc)?;
     let mut transactions = Vec::new(alloc);
     let mut number = start.number;
     let mut place = PlaceIs::Index(index);
@@ -286,7 +288,7 @@ fn follow_from<P: Port>(
             number: TxNo(number),
             place,
         };
-        let next = read_next(alloc, geometry, port, &at, newest, &mut block)?;
+        let next = read_next(alloc, geometry, port, &at, newest, &mut block, &mut before)?;
         newest = Some(newest.unwrap_or(next.place));
         number = next.prev_number;
         place = PlaceIs::Exact(next.prev_place);
@@ -303,6 +305,7 @@ fn read_next<P: Port>(
     at: &Expect,
     newest: Option<u64>,
     block: &mut Block,
+    before: &mut Block,
 ) -> Result<Descriptor, ChainRefusal>
     requires queue { at.now.queue < queues_of geometry }
     requires port { IsPortOf geometry (Role.Queue at.now.queue) (P.state port.now) }
@@ -312,17 +315,35 @@ fn read_next<P: Port>(
     ensures refused { IfErr result (λ e. (e ≡ ChainRefusal.OutOfMemory)
         ⊎ RefusesNext geometry (P.state port.now) at.now.queue at.now.number at.now.place newest e) }
 {
+    let area = u64::from(geometry.area());
     read_area(geometry, at.queue, place_of(at), port, block);
-    let next = match read_descriptor(alloc, geometry, at, block) {
+    read_area(
+        geometry,
+        at.queue,
+        place_of(at) % area + (area - 1),
+        port,
+        before,
+    );
+    let next = match read_descriptor(alloc, geometry, at, block, before) {
         Ok(descriptor) => descriptor,
         Err(cause) => return Err(refused_at(at.number.0, cause)),
     };
     let newest = newest.unwrap_or(next.place);
-    let oldest = next.place - next.logged.len() as u64;
-    if oldest + u64::from(geometry.area()) <= newest {
+    let oldest = first_place(&next);
+    if oldest + area <= newest {
         return Err(ChainRefusal::Span { oldest, newest });
     }
     Ok(next)
+}
+
+// The place of the first copy of a transaction.
+pub fn first_place(d: &Descriptor) -> u64
+    requires few { length d.now.logged + length d.now.revoked ≤ list_limit }
+    requires fits { length d.now.logged + further d.now ≤ d.now.place }
+    ensures { result ≡ first_place d.now }
+{
+    let logged = d.logged.len() as u64;
+    d.place - (logged + further_blocks(logged + d.revoked.len() as u64))
 }
 
 // The refusal of the descriptor of a number.

@@ -7,7 +7,7 @@ ghost use Rattle.mq_drive.specs.Steps.{OffCause};
 ghost use Rattle.mq_recover.specs.Drives.{ArePorts, drive_of, faults_on};
 ghost use Rattle.mq_recover.specs.RecoverHomes.{AreBelow, GivesHome, GivesOne, CanMove, AreCutMoves, after_raise, after_move, IsCutRaise, IsCutMove};
 ghost use Rattle.mq_recover.specs.RecoverCauses.{HasHomeCause, HasDriveCause, HasMoveCause};
-ghost use Rattle.mq_recover.specs.Steps.{after_events, home_events, StopsAt};
+ghost use Rattle.mq_recover.specs.Events.{after_events, home_events, StopsAt};
 
 use crate::refusal::RecoverRefusal;
 use mq_blocks::{Block, BlockNo, Geometry, TxNo};

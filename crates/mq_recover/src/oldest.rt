@@ -1,7 +1,8 @@
 // The oldest of the transactions that stand at the ends of chains.
 ghost use Rattle.std.specs.Prelude.{◌≡◌, ◌<◌, ◌+◌, ◌^◌, List, length, IfOk, IfErr, MatchOption};
 ghost use Rattle.mq_blocks.specs.Descriptor.{Descriptor as Text};
-ghost use Rattle.mq_recover.specs.Ends.{chain_at, EndsWith, AreEmpty, IsOldest, IsLeast, RefusesEnds};
+ghost use Rattle.mq_recover.specs.Ends.{EndsWith, AreEmpty, IsOldest, IsLeast, RefusesEnds};
+ghost use Rattle.mq_recover.specs.Recover.{chain_at};
 
 use crate::chain::Chain;
 use crate::refusal::ImageFault;

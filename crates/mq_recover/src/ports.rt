@@ -3,11 +3,11 @@
 ghost use Rattle.std.specs.Prelude.{◌≡◌, ◌⊎◌, length, IfOk, IsErrOf};
 ghost use Rattle.mq_recover.specs.Drives.{AreBoundsKept, IsQuiescentDrive, drive_of, faults_on};
 ghost use Rattle.mq_recover.specs.RecoverCauses.{HasDriveCause, OnImage, OnDrive, UnlessImage};
-ghost use Rattle.mq_recover.specs.Refusals.{IsReadableImage, RefusesImage};
+ghost use Rattle.mq_recover.specs.Images.{IsReadableImage, RefusesImage};
 ghost use Rattle.mq_recover.specs.Steps.{HasRecovered, IsCutShort};
 
-use crate::homes::{move_heads, raise_base, write_homes};
-use crate::plan::{Recovered, make_plan};
+use crate::choice::{Recovered, find_copies};
+use crate::recovering::recover_chosen;
 use crate::refusal::{ImageFault, RecoverRefusal};
 use mq_blocks::Geometry;
 use mq_drive::{Port, Ports};
@@ -47,10 +47,7 @@ pub fn recover<P: Port>(
         (faults_on P.faults ports.old)
         (faults_on P.faults ports.new) }
 {
-    let plan = make_plan(alloc, geometry, ports)?;
-    let recovered = plan.recovered;
-    write_homes(geometry, ports, plan.writes)?;
-    raise_base(&mut ports.root, recovered.base)?;
-    move_heads(&mut ports.queues)?;
-    Ok(recovered)
+    let found = find_copies(alloc, geometry, ports)?;
+    recover_chosen(alloc, geometry, ports, &found.copies, found.recovered.base)?;
+    Ok(found.recovered)
 }

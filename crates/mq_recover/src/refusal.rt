@@ -131,6 +131,18 @@ impl From<Off> for RecoverRefusal {
     }
 }
 
+impl From<OutOfMemory> for RecoverRefusal {
+    ghost use Rattle.std.specs.Prelude.{◌≡◌};
+    ghost use Rattle.mq_recover.specs.declared.refusal.ImageFault.TheVariants as fault;
+    ghost use Rattle.mq_recover.specs.declared.refusal.RecoverRefusal.TheVariants as refusal;
+
+    ghost from_gives = { λ _ e. e ≡ refusal.Image fault.OutOfMemory };
+
+    fn from(_: OutOfMemory) -> Self {
+        RecoverRefusal::Image(ImageFault::OutOfMemory)
+    }
+}
+
 impl From<ImageFault> for RecoverRefusal {
     ghost use Rattle.std.specs.Prelude.{◌≡◌};
     ghost use Rattle.mq_recover.specs.declared.refusal.RecoverRefusal.TheVariants as refusal;

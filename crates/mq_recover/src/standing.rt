@@ -1,16 +1,13 @@
 // What stands on the home blocks of an image.
-ghost use Rattle.std.specs.Prelude.{◌≡◌, ◌⊎◌, ◌<◌, ℕ, length, IfOk, IfErr, IsErrOf, IsOkUnless, None, slice_index_or};
-ghost use Rattle.mq_blocks.specs.Blocks.{block_at};
-ghost use Rattle.mq_blocks.specs.Geometry.{homes_of};
-ghost use Rattle.mq_recover.specs.Drives.{IsQuiescentDrive, drive_of, view_over};
-ghost use Rattle.mq_recover.specs.Recover.{IsCopyPlaceOf};
-ghost use Rattle.mq_recover.specs.Refusals.{IsReadableImage, RefusesImage};
-ghost use Rattle.mq_recover.specs.Standing.{Finds, StandsIn, newest_of};
+ghost use Rattle.std.specs.Prelude.{◌≡◌, ◌⊎◌, IfOk, IfErr, IsErrOf, IsOkUnless};
+ghost use Rattle.mq_recover.specs.Drives.{IsQuiescentDrive, drive_of};
+ghost use Rattle.mq_recover.specs.Images.{IsReadableImage, RefusesImage};
+ghost use Rattle.mq_recover.specs.Standing.{Finds, StandsIn};
 
-use crate::copies::CopyPlace;
-use crate::plan::{Recovered, find_copies, read_copy_place};
+use crate::choice::{Recovered, find_copies};
+use crate::contents::read_blocks;
 use crate::refusal::ImageFault;
-use mq_blocks::{Block, BlockNo, Geometry, OutOfMemory, TxNo};
+use mq_blocks::{Block, Geometry, TxNo};
 use mq_drive::{Port, Ports};
 use std::alloc::Global;
 
@@ -46,7 +43,7 @@ pub fn stands<P: Port>(
         → IsOkUnless result ImageFault.OutOfMemory }
 {
     let found = find_copies(alloc, geometry, ports)?;
-    let blocks = read_blocks(alloc, geometry, ports, &found.places)?;
+    let blocks = read_blocks(alloc, geometry, ports, &found.copies)?;
     Ok(Standing {
         blocks,
         prefix: found.recovered.prefix,
@@ -76,45 +73,4 @@ pub fn find_prefix<P: Port>(
 {
     let found = find_copies(alloc, geometry, ports)?;
     Ok(found.recovered)
-}
-
-// Reads each home block's copy, else the block at home.
-fn read_blocks<P: Port>(
-    alloc: Global,
-    geometry: Geometry,
-    ports: &Ports<P>,
-    copies: &[Option<CopyPlace>],
-) -> Result<Vec<Option<Block>>, OutOfMemory>
-    requires still { IsQuiescentDrive geometry (drive_of P.state ports.now) }
-    requires homes { length copies.now ≡ homes_of geometry }
-    requires own { (x : ℕ) → IsCopyPlaceOf geometry.queues (slice_index_or copies.now x None) }
-    ensures { IfOk result (λ v. (length v.items ≡ homes_of geometry)
-        × ((b : ℕ)
-        → b < homes_of geometry
-        → block_at v.items b ≡ newest_of geometry (drive_of P.state ports.now)
-        (slice_index_or copies.now b None) b)) }
-{
-    let mut blocks = Vec::new(alloc);
-    for (b, copy) in copies.iter().enumerate() {
-        let mut block = Block::zeroed(alloc)?;
-        match copy {
-            Some(source) => read_copy_place(geometry, ports, *source, &mut block),
-            None => read_home(geometry, ports, BlockNo(b as u32), &mut block),
-        }
-        blocks.push(Some(block))?;
-    }
-    Ok(blocks)
-}
-
-/// A home block, through the port that has it.
-pub fn read_home<P: Port>(geometry: Geometry, ports: &Ports<P>, b: BlockNo, into: &mut Block)
-    requires still { IsQuiescentDrive geometry (drive_of P.state ports.now) }
-    requires within { b < homes_of geometry }
-    ensures { into.new ≡ (view_over geometry (drive_of P.state ports.now)).home b }
-{
-    let lba = geometry.home(b);
-    match geometry.zone_of(b) {
-        None => ports.root.read_block(lba, into),
-        Some(queue) => ports.queues[queue.0 as usize].read_block(lba, into),
-    }
 }

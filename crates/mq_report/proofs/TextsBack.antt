@@ -10,7 +10,7 @@ use Rattle.hex.specs.declared.error.FromHexError.{FromHexError}
 use Rattle.mq_script.specs.Spelled.{end_word}
 use Rattle.mq_script.specs.declared.group.End.{End}
 use Rattle.mq_script.specs.declared.group.End.TheVariants.{Fsync, Fatomic, Ask}
-use Rattle.mq_text.proofs.TextNumbers.{own}
+use Rattle.mq_block_text.proofs.TextNumbers.{own}
 use Rattle.mq_tree.specs.declared.request.Fault.{Fault}
 use Rattle.mq_tree.specs.declared.request.Fault.TheVariants.{NotFound, Exists, NotDir, IsDir, NotEmpty, BadName, TooBig, Subtree, NoSpace, NoInodes}
 use Rattle.mq_tree.specs.declared.request.Reply.{Reply}

@@ -5,7 +5,7 @@ use Rattle.std.proofs.lemmas.Bool.{eq-eqb}
 use Rattle.std.proofs.lemmas.List.{append-nil}
 use Rattle.std.proofs.lemmas.List.Splits.{slice_split_none, slice_split_at}
 use Rattle.mq_report.specs.Texts.{Words, after_spaces, spaced, spelled}
-use Rattle.mq_text.proofs.TextParts.{Avoids}
+use Rattle.mq_block_text.proofs.TextParts.{Avoids}
 
 -- a line has a word, and no word has a space
 abbrev pub IsLine : Words → Type 0

@@ -12,8 +12,8 @@ use Rattle.mq_layout.specs.Names.{is_name, is_letter}
 use Rattle.mq_script.specs.Spelled.{end_word}
 use Rattle.mq_script.specs.declared.group.End.{End}
 use Rattle.mq_script.specs.declared.group.End.TheVariants.{Fsync, Fatomic, Ask}
-use Rattle.mq_text.proofs.TextNumbers.{own}
-use Rattle.mq_text.proofs.TextParts.{Avoids}
+use Rattle.mq_block_text.proofs.TextNumbers.{own}
+use Rattle.mq_block_text.proofs.TextParts.{Avoids}
 use Rattle.mq_tree.specs.declared.request.Fault.{Fault}
 use Rattle.mq_tree.specs.declared.request.Fault.TheVariants.{NotFound, Exists, NotDir, IsDir, NotEmpty, BadName, TooBig, Subtree, NoSpace, NoInodes}
 use Rattle.mq_tree.specs.declared.request.Reply.{Reply}

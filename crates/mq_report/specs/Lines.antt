@@ -3,8 +3,8 @@ use Rattle.std.specs.Prelude.{ℕ, Bool, List, Option, Result, Ok, Err}
 use Rattle.mq_calls.specs.declared.answers.CallCause.{CallCause}
 use Rattle.mq_calls.specs.declared.answers.CallCause.TheVariants.{OutOfMemory, TooLarge, Changes as Changing, Drive}
 use Rattle.mq_calls.specs.declared.answers.Refusal.{Refusal}
-use Rattle.mq_side.specs.declared.answers.Cause.{Cause}
-use Rattle.mq_side.specs.declared.answers.Cause.TheVariants.{Off as PowerOff, Failed as CommandFailed, FailedHome, Stopped as WasStopped}
+use Rattle.mq_queue_side.specs.declared.answers.Cause.{Cause}
+use Rattle.mq_queue_side.specs.declared.answers.Cause.TheVariants.{Off as PowerOff, Failed as CommandFailed, FailedHome, Stopped as WasStopped}
 use Rattle.mq_script.specs.declared.group.End.{End}
 use Rattle.mq_tree.specs.declared.request.Reply.{Reply}
 use Rattle.mq_report.specs.declared.line.Told.{Told}

@@ -9,7 +9,10 @@ IsBefore s k t j = (s < t) ⊎ ((s ≡ t) × (k < j))
 
 -- by number, the commit before the reads, and these by session and group
 abbrev pub Precedes : Line → Line → Type 0
-Precedes l m = (l.number < m.number) ⊎ ((l.number ≡ m.number) × (m.commit ≡ false) × ((l.commit ≡ true) ⊎ IsBefore l.session l.group m.session m.group))
+Precedes l m =
+    (l.number < m.number)
+    ⊎ ((l.number ≡ m.number) × (m.commit ≡ false)
+    × ((l.commit ≡ true) ⊎ IsBefore l.session l.group m.session m.group))
 
 abbrev pub IsToldBefore : Told → Told → Type 0
 IsToldBefore t u = IsBefore t.session t.group u.session u.group

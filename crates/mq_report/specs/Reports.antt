@@ -9,7 +9,8 @@ use Rattle.mq_report.specs.declared.line.Last.{Last}
 use Rattle.mq_report.specs.declared.line.Told.{Told}
 
 -- The text is the report of these, which stand in their order.
-pub record IsReport (text : List ℕ) (base : ℕ) (entries : List Line) (answers : List Told) (last : Last) : Type 0 where
+pub record IsReport (text : List ℕ) (base : ℕ) (entries : List Line) (answers : List Told)
+    (last : Last) : Type 0 where
   pub text_is : text ≡ spelled (report_lines base entries answers last)
   pub entries_order : AllPairs Precedes entries
   pub answers_order : AllPairs IsToldBefore answers

@@ -51,7 +51,9 @@ entry_word true = codes "commit"
 entry_word false = codes "at"
 
 abbrev pub entry_line : Line → Words
-entry_line l = entry_word l.commit ∷ decimal l.number ∷ codes "session" ∷ decimal l.session ∷ codes "group" ∷ decimal l.group ∷ end_word l.end ∷ []
+entry_line l =
+    entry_word l.commit ∷ decimal l.number ∷ codes "session" ∷ decimal l.session ∷ codes "group"
+    ∷ decimal l.group ∷ end_word l.end ∷ []
 
 -- an entry, and its replies below it
 abbrev pub group_lines : Line → List Words
@@ -92,7 +94,8 @@ last_line (StoppedTx tx) = codes "stopped" ∷ codes "tx" ∷ decimal tx ∷ []
 last_line (StoppedBlock block) = codes "stopped" ∷ codes "block" ∷ decimal block ∷ []
 
 abbrev pub report_lines : (base : ℕ) → List Line → List Told → Last → List Words
-report_lines base entries answers last = base_line base ∷ entry_lines entries ++ (map told_line answers ++ last_line last ∷ [])
+report_lines base entries answers last =
+    base_line base ∷ entry_lines entries ++ (map told_line answers ++ last_line last ∷ [])
 
 -- each word after a space
 abbrev pub after_spaces : Words → List ℕ

@@ -28,4 +28,5 @@ pub record MeetsRest (k : KnownJournal) (t : Tx) : Type 0 where
   pub whole : All (λ w. length w.1 ≡ 4096) (t.logged ++ t.direct)
   pub freed : AreRising 0 (homes_of k.geometry) t.freed
   pub kept : AreApart t.freed (blocks_of (t.logged ++ t.direct))
-  pub there : (x : ℕ) → is_among x t.freed ≡ true → (block : List ℕ) × (map_after k.start k.history x ≡ Some block)
+  pub there : (x : ℕ) → is_among x t.freed ≡ true
+      → (block : List ℕ) × (map_after k.start k.history x ≡ Some block)

@@ -1,6 +1,6 @@
 -- Blocks by where a transaction writes them.
 use Rattle.std.specs.Prelude.{ℕ, ◌≤◌, List}
-use Rattle.mq_blocks.specs.Descriptor.{list_limit}
+use Rattle.mq_blocks.specs.Limits.{list_limit}
 
 pub record Placed : Type 0 where
   -- in the journal area of its queue

@@ -21,13 +21,15 @@ abbrev pub IsCopied : ℕ → Planned → Type 0
 IsCopied base w = base < w.last_logged
 
 -- The blocks, in rising order, are those of the writes that have it, and no others.
-pub record AreThose (homes : ℕ) (has : Planned → Type 0) (writes : List Planned) (blocks : List ℕ) : Type 0 where
+pub record AreThose (homes : ℕ) (has : Planned → Type 0) (writes : List Planned)
+    (blocks : List ℕ) : Type 0 where
   pub only : (x : ℕ) → is_among x blocks ≡ true → (w : Planned) × Contains writes w × (w.block ≡ x) × has w
   pub all : (w : Planned) → Contains writes w → has w → is_among w.block blocks ≡ true
   pub rising : AreRising 0 homes blocks
 
 -- Direct blocks go home, and all others are logged; direct blocks with a copy are revoked, and no others.
-pub record IsPlacement (g : Geometry) (queue front base : ℕ) (writes : List Planned) (p : Placed) : Type 0 where
+pub record IsPlacement (g : Geometry) (queue front base : ℕ) (writes : List Planned)
+    (p : Placed) : Type 0 where
   pub direct : AreThose (homes_of g) (IsDirect g queue front) writes p.direct
   pub logged : AreThose (homes_of g) (λ w. IsDirect g queue front w → ⊥) writes p.logged
   pub revoked : AreThose (homes_of g) (λ w. IsDirect g queue front w × IsCopied base w) writes p.revoked

@@ -8,14 +8,14 @@ use Rattle.mq_drive.specs.Steps.{PortFault}
 use Rattle.mq_drive.specs.declared.port.Port.{Ghosts}
 use Rattle.mq_drive.specs.declared.port.Ports.{Ports}
 use Rattle.mq_drive.specs.declared.role.Role.TheVariants.{Queue, Root}
-use Rattle.mq_files.specs.Group.{file_group}
-use Rattle.mq_files.specs.declared.entry.FileEntry.{FileEntry}
+use Rattle.mq_file_entries.specs.Group.{file_group}
+use Rattle.mq_file_entries.specs.declared.entry.FileEntry.{FileEntry}
 use Rattle.mq_journal.specs.Numbers.{Start}
 use Rattle.mq_ledger.specs.State.{port_at}
 use Rattle.mq_recover.specs.Drives.{AreBoundsKept, ArePorts, drive_of}
 use Rattle.mq_recover.specs.declared.standing.Standing.{Standing}
 use Rattle.mq_script.specs.Scripts.{Script}
-use Rattle.mq_side.specs.declared.side.QueueSide.{QueueSide}
+use Rattle.mq_queue_side.specs.declared.side.QueueSide.{QueueSide}
 use Rattle.mq_tie.specs.Ports.{KeepsPorts, StaysPort, opened_states}
 use Rattle.mq_tie.specs.Runs.{ports_of}
 use Rattle.mq_tie.specs.declared.ended.Ended.{Ended}

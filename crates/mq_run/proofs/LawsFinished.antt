@@ -9,18 +9,18 @@ use Rattle.mq_core.proofs.KnownJournalGrowth.{front_low}
 use Rattle.mq_drive.specs.Steps.{PortFault}
 use Rattle.mq_drive.specs.declared.port.Port.{Ghosts}
 use Rattle.mq_drive.specs.declared.port.Ports.{Ports}
-use Rattle.mq_files.specs.Group.{file_group}
-use Rattle.mq_files.specs.declared.entry.FileEntry.{FileEntry}
+use Rattle.mq_file_entries.specs.Group.{file_group}
+use Rattle.mq_file_entries.specs.declared.entry.FileEntry.{FileEntry}
 use Rattle.mq_journal.specs.Numbers.{Seat, Shared, Start}
 use Rattle.mq_journal.specs.Values.{side_values}
 use Rattle.mq_ledger.specs.KnownJournal.{front}
 use Rattle.mq_recover.specs.declared.standing.Standing.{Standing}
-use Rattle.mq_rules.specs.Groups.{GroupView}
-use Rattle.mq_rules.specs.Rule.{IsOk, IsRoot, core_of, history}
-use Rattle.mq_rules.specs.Values.{Values}
+use Rattle.mq_desk_laws.specs.Groups.{GroupView}
+use Rattle.mq_desk_laws.specs.Rule.{IsOk, IsRoot, core_of, history}
+use Rattle.mq_desk_laws.specs.Values.{Values}
 use Rattle.mq_script.specs.Scripts.{Group, Script}
-use Rattle.mq_side.specs.declared.root.Root.{Root}
-use Rattle.mq_side.specs.declared.side.QueueSide.{QueueSide}
+use Rattle.mq_queue_side.specs.declared.root.Root.{Root}
+use Rattle.mq_queue_side.specs.declared.side.QueueSide.{QueueSide}
 use Rattle.mq_tie.specs.declared.ended.Ended.{Ended}
 use Rattle.mq_turns.specs.Desk.{drawn_of, fresh}
 use Rattle.mq_turns.specs.Lists.{Each, tick, times}

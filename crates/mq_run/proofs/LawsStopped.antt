@@ -10,14 +10,14 @@ use Rattle.mq_checkpoint.specs.declared.refusal.CheckpointRefusal.TheVariants.{D
 use Rattle.mq_drive.specs.Steps.{PortFault}
 use Rattle.mq_drive.specs.declared.port.Port.{Ghosts}
 use Rattle.mq_drive.specs.declared.port.Ports.{Ports}
-use Rattle.mq_files.specs.Group.{file_group}
-use Rattle.mq_files.specs.declared.entry.FileEntry.{FileEntry}
+use Rattle.mq_file_entries.specs.Group.{file_group}
+use Rattle.mq_file_entries.specs.declared.entry.FileEntry.{FileEntry}
 use Rattle.mq_journal.specs.Draining.{report_of}
 use Rattle.mq_journal.specs.Numbers.{Seat, Start}
 use Rattle.mq_recover.specs.Drives.{DriveFaults, faults_of, faults_on}
 use Rattle.mq_recover.specs.declared.standing.Standing.{Standing}
 use Rattle.mq_script.specs.Scripts.{Script}
-use Rattle.mq_side.specs.declared.answers.Cause.{Cause}
+use Rattle.mq_queue_side.specs.declared.answers.Cause.{Cause}
 use Rattle.mq_tie.specs.Backed.{IsBehindAt, opened_faults}
 use Rattle.mq_tie.specs.Runs.{ports_of}
 use Rattle.mq_tie.specs.declared.ended.Ended.{Ended}

@@ -10,8 +10,8 @@ use Rattle.mq_checkpoint.specs.declared.refusal.CheckpointRefusal.{CheckpointRef
 use Rattle.mq_drive.specs.Steps.{PortFault}
 use Rattle.mq_drive.specs.declared.port.Port.{Ghosts}
 use Rattle.mq_drive.specs.declared.port.Ports.{Ports}
-use Rattle.mq_files.specs.Group.{file_group}
-use Rattle.mq_files.specs.declared.entry.FileEntry.{FileEntry}
+use Rattle.mq_file_entries.specs.Group.{file_group}
+use Rattle.mq_file_entries.specs.declared.entry.FileEntry.{FileEntry}
 use Rattle.mq_journal.specs.Numbers.{Seat, Start}
 use Rattle.mq_recover.specs.declared.standing.Standing.{Standing}
 use Rattle.mq_report.specs.declared.line.Line.{Line}

@@ -5,8 +5,8 @@ use Rattle.mq_checkpoint.specs.Raised.{HasRefused, Raises}
 use Rattle.mq_checkpoint.specs.declared.refusal.CheckpointRefusal.{CheckpointRefusal}
 use Rattle.mq_drive.specs.Steps.{PortFault}
 use Rattle.mq_drive.specs.declared.port.Port.{Ghosts}
-use Rattle.mq_files.specs.Group.{file_group}
-use Rattle.mq_files.specs.declared.entry.FileEntry.{FileEntry}
+use Rattle.mq_file_entries.specs.Group.{file_group}
+use Rattle.mq_file_entries.specs.declared.entry.FileEntry.{FileEntry}
 use Rattle.mq_journal.specs.Numbers.{Seat}
 use Rattle.mq_turns.specs.Desk.{Below}
 use Rattle.mq_turns.specs.Lists.{Each}
@@ -28,15 +28,19 @@ module _ {P : Type 0} {G : Ghosts P} where
 
 module _ {P : Type 0} {G : Ghosts P} (state : P → PortState) (faults : P → List PortFault) where
   -- what the checkpoint at the end answered, where one was asked for
-  abbrev pub Finishes : Option (Result ℕ CheckpointRefusal) → List (Seat P FileEntry G) → Seat P FileEntry G → Seat P FileEntry G → Type 0
+  abbrev pub Finishes : Option (Result ℕ CheckpointRefusal) → List (Seat P FileEntry G)
+      → Seat P FileEntry G → Seat P FileEntry G → Type 0
   Finishes None others old new = new ≡ old
   Finishes (Some (Ok base)) others old new =
-      (between : Seat P FileEntry G) × HasHeard others old between × Raises state faults file_group base between new
+      (between : Seat P FileEntry G) × HasHeard others old between
+      × Raises state faults file_group base between new
   Finishes (Some (Err why)) others old new =
-      (between : Seat P FileEntry G) × HasHeard others old between × HasRefused state faults file_group why between new
+      (between : Seat P FileEntry G) × HasHeard others old between
+      × HasRefused state faults file_group why between new
 
   -- what this leaves of what all sessions knew
-  pub record HasFinished (finish : Bool) (answer : Option (Result ℕ CheckpointRefusal)) (old new : List (Seat P FileEntry G)) : Type 0 where
+  pub record HasFinished (finish : Bool) (answer : Option (Result ℕ CheckpointRefusal))
+      (old new : List (Seat P FileEntry G)) : Type 0 where
     pub asked : IsAskedFor finish answer
     pub first : Seat P FileEntry G
     pub last : Seat P FileEntry G

@@ -12,7 +12,7 @@ use Rattle.mq_recover.specs.declared.standing.Standing.{Standing}
 use Rattle.mq_run.specs.Runs.{HasRunScripts}
 use Rattle.mq_run.specs.declared.end.RunEnd.{RunEnd}
 use Rattle.mq_script.specs.Scripts.{Script}
-use Rattle.mq_side.specs.declared.answers.Cause.{Cause}
+use Rattle.mq_queue_side.specs.declared.answers.Cause.{Cause}
 use Rattle.mq_tie.specs.Backed.{IsBehindAt}
 use Rattle.mq_turns.specs.declared.turn.Turn.{Turn}
 
@@ -33,12 +33,14 @@ module _ {P : Type 0} (G : Ghosts P) (state : P → PortState) (faults : P → L
   RunsKeepTheirPorts =
       (g : Geometry) (ports : Ports P) (s : Standing) (scripts : List Script) (finish : Bool) (e : RunEnd P)
       → HasRunScripts G state faults g ports s scripts finish e
-      → ArePorts g (drive_of state e.ports) × AreBoundsKept g (drive_of state ports) (drive_of state e.ports)
+      → ArePorts g (drive_of state e.ports)
+      × AreBoundsKept g (drive_of state ports) (drive_of state e.ports)
 
   -- the base that the checkpoint at the end raised is the last number
   abbrev pub FinishedRunsAreClean : Type 0
   FinishedRunsAreClean =
-      (g : Geometry) (ports : Ports P) (s : Standing) (scripts : List Script) (finish : Bool) (e : RunEnd P) (n : ℕ)
+      (g : Geometry) (ports : Ports P) (s : Standing) (scripts : List Script) (finish : Bool)
+      (e : RunEnd P) (n : ℕ)
       → HasRunScripts G state faults g ports s scripts finish e
       → e.finished ≡ Some (Ok n)
       → IsClean n e.next (state e.ports.root)
@@ -46,7 +48,8 @@ module _ {P : Type 0} (G : Ghosts P) (state : P → PortState) (faults : P → L
   -- where the drive refused the checkpoint at the end, a port has gained a fault for it
   abbrev pub StopsAreBacked : Type 0
   StopsAreBacked =
-      (g : Geometry) (ports : Ports P) (s : Standing) (scripts : List Script) (finish : Bool) (e : RunEnd P) (why : Cause)
+      (g : Geometry) (ports : Ports P) (s : Standing) (scripts : List Script) (finish : Bool)
+      (e : RunEnd P) (why : Cause)
       → HasRunScripts G state faults g ports s scripts finish e
       → e.finished ≡ Some (Err (Drive why))
       → IsBehindStop g why (faults_on faults ports) (faults_on faults e.ports)

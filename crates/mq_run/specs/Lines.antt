@@ -2,7 +2,7 @@
 use Rattle.std.specs.Prelude.{◌≡◌, ◌⊎◌, ◌<◌, ◌≤◌, ◌++◌, ◌%◌, ◌^◌, ℕ, Bool, true, false, List, [], ◌∷◌}
 use Rattle.std.specs.Ordering.{bool_cmp, nat_cmp, ordering_then}
 use Rattle.std.specs.declared.cmp.Ordering.{Ordering}
-use Rattle.mq_files.specs.declared.entry.FileEntry.{FileEntry}
+use Rattle.mq_file_entries.specs.declared.entry.FileEntry.{FileEntry}
 use Rattle.mq_report.specs.declared.line.Line.{Line}
 use Rattle.mq_script.specs.declared.group.End.{End}
 use Rattle.mq_script.specs.declared.group.End.TheVariants.{Fatomic, Fsync}
@@ -24,12 +24,16 @@ pub record IsCommitLine (number : ℕ) (e : FileEntry) (l : Line) : Type 0 where
 -- one for each entry, in their order
 pub data AreCommitLines : List (ℕ × FileEntry) → List Line → Type 0 where
   none : AreCommitLines [] []
-  more : {n : ℕ} {e : FileEntry} {l : Line} {es : List (ℕ × FileEntry)} {ls : List Line} → IsCommitLine n e l → AreCommitLines es ls → AreCommitLines ((n, e) ∷ es) (l ∷ ls)
+  more : {n : ℕ} {e : FileEntry} {l : Line} {es : List (ℕ × FileEntry)} {ls : List Line}
+      → IsCommitLine n e l → AreCommitLines es ls → AreCommitLines ((n, e) ∷ es) (l ∷ ls)
 
 -- the order of a report: by number, the commit before the reads, and these by session and group
 abbrev pub line_cmp : Line → Line → Ordering
 line_cmp l m =
-    ordering_then (ordering_then (ordering_then (nat_cmp l.number m.number) (bool_cmp m.commit l.commit)) (nat_cmp l.session m.session)) (nat_cmp l.group m.group)
+    ordering_then (ordering_then
+    (ordering_then (nat_cmp l.number m.number) (bool_cmp m.commit l.commit))
+    (nat_cmp l.session m.session))
+    (nat_cmp l.group m.group)
 
 abbrev pub IsNotAfter : Line → Line → Type 0
 IsNotAfter l m =

@@ -11,7 +11,7 @@ use Rattle.mq_calls.specs.declared.answers.Answer.{Answer}
 use Rattle.mq_calls.specs.declared.answers.Refusal.{Refusal}
 use Rattle.mq_drive.specs.Steps.{PortFault}
 use Rattle.mq_drive.specs.declared.port.Port.{Ghosts}
-use Rattle.mq_files.specs.declared.entry.FileEntry.{FileEntry}
+use Rattle.mq_file_entries.specs.declared.entry.FileEntry.{FileEntry}
 use Rattle.mq_journal.specs.Numbers.{Seat}
 use Rattle.mq_report.specs.Sessions.{ends_session}
 use Rattle.mq_report.specs.declared.line.Line.{Line}
@@ -44,8 +44,10 @@ told_of session k end answer = record { session = session; group = k; end = end;
 -- the answers are those of all groups, or the last of them ends the session; no other does
 pub record AreAnswers (groups : ℕ) (told : List Told) : Type 0 where
   pub most : length told ≤ groups
-  pub before : (i : ℕ) (t : Told) → slice_get told i ≡ Some t → suc i < length told → ends_session t.answer ≡ false
-  pub all : (length told ≡ groups) ⊎ ((t : Told) × (slice_get told (length told - 1) ≡ Some t) × (ends_session t.answer ≡ true))
+  pub before : (i : ℕ) (t : Told) → slice_get told i ≡ Some t → suc i < length told
+      → ends_session t.answer ≡ false
+  pub all : (length told ≡ groups)
+      ⊎ ((t : Told) × (slice_get told (length told - 1) ≡ Some t) × (ends_session t.answer ≡ true))
 
 -- The groups can be counted in 32 bits, and so can the requests of each.
 pub record IsShort (groups : List Group) : Type 0 where
@@ -53,7 +55,8 @@ pub record IsShort (groups : List Group) : Type 0 where
   pub each : (i : ℕ) (group : Group) → slice_get groups i ≡ Some group → length group.requests < 2 ^ 32
 
 -- Nothing was reported yet, and there is room for what is reported of each group, and for its line.
-pub record HasRoom {Z : Type 0} (groups : List Group) (told : Vec Told Z) (reads : Vec Line Z) : Type 0 where
+pub record HasRoom {Z : Type 0} (groups : List Group) (told : Vec Told Z)
+    (reads : Vec Line Z) : Type 0 where
   pub told_none : told.items ≡ []
   pub told_room : length groups ≤ vec_capacity told
   pub reads_none : reads.items ≡ []
@@ -66,7 +69,8 @@ pub record HasRoom {Z : Type 0} (groups : List Group) (told : Vec Told Z) (reads
 abbrev pub TellsOfChanges : End → List Request → Result ℕ Refusal → Type 0
 TellsOfChanges Fsync requests answer = Unit {0}
 TellsOfChanges Fatomic requests answer = Unit {0}
-TellsOfChanges Ask requests answer = (index : ℕ) → IsFirstChange requests index ↔ (answer ≡ Err (refusal_at index))
+TellsOfChanges Ask requests answer =
+    (index : ℕ) → IsFirstChange requests index ↔ (answer ≡ Err (refusal_at index))
 
 -- the line of a group that was read
 pub record IsReadLine (session k : ℕ) (end : End) (at : ℕ) (replies : List Reply) (l : Line) : Type 0 where
@@ -80,7 +84,8 @@ pub record IsReadLine (session k : ℕ) (end : End) (at : ℕ) (replies : List R
 -- the lines that a group has which was answered so
 abbrev pub AreLinesAt : (session k : ℕ) → End → (at : ℕ) → (drew : Bool) → List Reply → List Line → Type 0
 AreLinesAt session k end at true replies lines = lines ≡ []
-AreLinesAt session k end at false replies lines = (l : Line) × IsReadLine session k end at replies l × (lines ≡ l ∷ [])
+AreLinesAt session k end at false replies lines =
+    (l : Line) × IsReadLine session k end at replies l × (lines ≡ l ∷ [])
 
 abbrev pub AreLines : (session k : ℕ) → End → Result Answer Refusal → List Line → Type 0
 AreLines session k end (Ok a) lines = AreLinesAt session k end a.at a.drew a.replies.items lines
@@ -88,7 +93,8 @@ AreLines session k end (Err r) lines = lines ≡ []
 
 module _ {P : Type 0} {G : Ghosts P} (state : P → PortState) (faults : P → List PortFault) where
   -- the group was done as its end asks
-  abbrev pub IsDone : Geometry → End → Call → (at : ℕ) → (drew : Bool) → List Reply → Seat P FileEntry G → Seat P FileEntry G → Type 0
+  abbrev pub IsDone : Geometry → End → Call → (at : ℕ) → (drew : Bool) → List Reply → Seat P FileEntry G
+      → Seat P FileEntry G → Type 0
   IsDone g Fsync c at drew replies old new = IsDurable state faults g c at drew replies old new
   IsDone g Fatomic c at drew replies old new = HasActed state faults g c at drew replies old new
   IsDone g Ask c at drew replies old new = (drew ≡ false) × ReadsOnly c replies at old new
@@ -100,16 +106,20 @@ module _ {P : Type 0} {G : Ghosts P} (state : P → PortState) (faults : P → L
 
   -- What a group came to, and the line that it has if it was read: the line of a commit is made of the
   -- history.
-  abbrev pub Comes : Geometry → (session k : ℕ) → Group → Result ℕ Refusal → List Line → Seat P FileEntry G → Seat P FileEntry G → Type 0
-  Comes g session k group (Ok at) [] old new = (replies : List Reply) × IsDone g group.end (call_at session k group) at true replies old new
+  abbrev pub Comes : Geometry → (session k : ℕ) → Group → Result ℕ Refusal → List Line
+      → Seat P FileEntry G → Seat P FileEntry G → Type 0
+  Comes g session k group (Ok at) [] old new =
+      (replies : List Reply) × IsDone g group.end (call_at session k group) at true replies old new
   Comes g session k group (Ok at) (l ∷ []) old new =
-      (replies : List Reply) × IsReadLine session k group.end at replies l × IsDone g group.end (call_at session k group) at false replies old new
+      (replies : List Reply) × IsReadLine session k group.end at replies l
+      × IsDone g group.end (call_at session k group) at false replies old new
   Comes g session k group (Ok at) (l ∷ m ∷ ls) old new = ⊥
   Comes g session k group (Err r) [] old new = IsNotDone g group.end (call_at session k group) r old new
   Comes g session k group (Err r) (l ∷ ls) old new = ⊥
 
   -- what is reported of it
-  pub record IsTold (g : Geometry) (session k : ℕ) (group : Group) (t : Told) (lines : List Line) (old new : Seat P FileEntry G) : Type 0 where
+  pub record IsTold (g : Geometry) (session k : ℕ) (group : Group) (t : Told) (lines : List Line)
+      (old new : Seat P FileEntry G) : Type 0 where
     pub session_is : t.session ≡ session
     pub group_is : t.group ≡ k
     pub end : t.end ≡ group.end
@@ -120,11 +130,18 @@ module _ {P : Type 0} {G : Ghosts P} (state : P → PortState) (faults : P → L
   -- ---- the groups of a script
 
   -- The first groups were asked, one after another: the answers, and the lines of those that were read.
-  pub data Plays (g : Geometry) (session : ℕ) (groups : List Group) (from : Seat P FileEntry G) : (k : ℕ) → List Told → List Line → Seat P FileEntry G → Type 0 where
+  pub data Plays (g : Geometry) (session : ℕ) (groups : List Group)
+      (from : Seat P FileEntry G) : (k : ℕ)
+      → List Told → List Line → Seat P FileEntry G → Type 0 where
     begins : Plays g session groups from 0 [] [] from
-    goes : {k : ℕ} {told : List Told} {lines more : List Line} {old new : Seat P FileEntry G} {group : Group} {t : Told} → Plays g session groups from k told lines old → slice_get groups k ≡ Some group → IsTold g session k group t more old new → Plays g session groups from (suc k) (told ++ t ∷ []) (lines ++ more) new
+    goes : {k : ℕ} {told : List Told} {lines more : List Line} {old new : Seat P FileEntry G}
+        {group : Group} {t : Told}
+        → Plays g session groups from k told lines old → slice_get groups k ≡ Some group
+        → IsTold g session k group t more old new
+        → Plays g session groups from (suc k) (told ++ t ∷ []) (lines ++ more) new
 
   -- The session has played its script.
-  pub record HasPlayed (g : Geometry) (session : ℕ) (groups : List Group) (told : List Told) (lines : List Line) (old new : Seat P FileEntry G) : Type 0 where
+  pub record HasPlayed (g : Geometry) (session : ℕ) (groups : List Group) (told : List Told)
+      (lines : List Line) (old new : Seat P FileEntry G) : Type 0 where
     pub plays : Plays g session groups old (length told) told lines new
     pub answers : AreAnswers (length groups) told

@@ -8,8 +8,8 @@ use Rattle.mq_calls.specs.Opening.{IsOpenedOver}
 use Rattle.mq_drive.specs.Steps.{PortFault}
 use Rattle.mq_drive.specs.declared.port.Port.{Ghosts}
 use Rattle.mq_drive.specs.declared.port.Ports.{Ports}
-use Rattle.mq_files.specs.Group.{file_group}
-use Rattle.mq_files.specs.declared.entry.FileEntry.{FileEntry}
+use Rattle.mq_file_entries.specs.Group.{file_group}
+use Rattle.mq_file_entries.specs.declared.entry.FileEntry.{FileEntry}
 use Rattle.mq_journal.specs.Numbers.{Seat, Start}
 use Rattle.mq_recover.specs.declared.standing.Standing.{Standing}
 use Rattle.mq_report.specs.declared.line.Line.{Line}
@@ -36,7 +36,8 @@ module _ {P : Type 0} {G : Ghosts P} where
 
   -- What is left of a closed desk and is reported of it, where the sessions were answered this and these
   -- are the lines of what they read.
-  pub record Leaves (end : Ended P FileEntry G) (told : List (List Told)) (reads : List (List Line)) (e : RunEnd P) : Type 0 where
+  pub record Leaves (end : Ended P FileEntry G) (told : List (List Told)) (reads : List (List Line))
+      (e : RunEnd P) : Type 0 where
     pub queues : e.ports.queues.items ≡ ports_of end
     pub root : e.ports.root ≡ end.root.port
     pub pages : e.pages ≡ end.pages
@@ -51,7 +52,8 @@ module _ {P : Type 0} {G : Ghosts P} where
 module _ {P : Type 0} {G : Ghosts P} (state : P → PortState) (faults : P → List PortFault) where
   -- Where it was asked for, the first session heard of what the others knew, and made a checkpoint. Then
   -- the desk was closed: the ports, the cells and the history are those that it had at the end.
-  pub record EndsSo (opening : Start P FileEntry G) (tracks : List (Track P G)) (finish : Bool) (e : RunEnd P) : Type 0 where
+  pub record EndsSo (opening : Start P FileEntry G) (tracks : List (Track P G)) (finish : Bool)
+      (e : RunEnd P) : Type 0 where
     pub left : List (Seat P FileEntry G)
     pub finished : HasFinished state faults finish e.finished (map (λ t. t.view) tracks) left
     pub end : Ended P FileEntry G
@@ -61,10 +63,13 @@ module _ {P : Type 0} {G : Ghosts P} (state : P → PortState) (faults : P → L
 module _ {P : Type 0} (G : Ghosts P) (state : P → PortState) (faults : P → List PortFault) where
   -- Each session has played its script, from the opening of a desk over these ports; and then the run
   -- ended.
-  pub record HasRunScripts (g : Geometry) (ports : Ports P) (s : Standing) (scripts : List Script) (finish : Bool) (e : RunEnd P) : Type 0 where
+  pub record HasRunScripts (g : Geometry) (ports : Ports P) (s : Standing) (scripts : List Script)
+      (finish : Bool) (e : RunEnd P) : Type 0 where
     pub opening : Start P FileEntry G
     pub opened : IsOpenedOver state faults g ports s opening
     pub tracks : List (Track P G)
     pub many : length tracks ≡ length scripts
-    pub played : (i : ℕ) (script : Script) (t : Track P G) → slice_get scripts i ≡ Some script → slice_get tracks i ≡ Some t → HasPlayed state faults g i script.groups t.told t.reads (fresh opening i) t.view
+    pub played : (i : ℕ) (script : Script) (t : Track P G) → slice_get scripts i ≡ Some script
+        → slice_get tracks i ≡ Some t
+        → HasPlayed state faults g i script.groups t.told t.reads (fresh opening i) t.view
     pub ends : EndsSo state faults opening tracks finish e

@@ -13,7 +13,13 @@ pub record Room : Type 0 where
   pub reads_room : ℕ
 
 abbrev pub room_of : Vec Told Global → Vec Line Global → Room
-room_of told reads = record { told = told.items; reads = reads.items; told_room = vec_capacity told; reads_room = vec_capacity reads }
+room_of told reads =
+    record {
+      told = told.items;
+      reads = reads.items;
+      told_room = vec_capacity told;
+      reads_room = vec_capacity reads;
+    }
 
 -- they are empty, and have room for `groups` groups
 abbrev pub room_for : (groups : ℕ) → Room

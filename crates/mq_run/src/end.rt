@@ -2,7 +2,7 @@
 use mq_blocks::TxNo;
 use mq_checkpoint::CheckpointRefusal;
 use mq_drive::{Port, Ports};
-use mq_files::Placed;
+use mq_file_entries::Placed;
 use mq_pages::PageCell;
 use mq_report::{Line, Told};
 

@@ -2,7 +2,7 @@
 ghost use Rattle.std.specs.Prelude.{◌≡◌, ◌<◌, [], IfOk, length, map, vec_len};
 ghost use Rattle.std.specs.List.{All};
 ghost use Rattle.mq_calls.specs.Sessions.{IsReady};
-ghost use Rattle.mq_files.specs.Group.{file_group};
+ghost use Rattle.mq_file_entries.specs.Group.{file_group};
 ghost use Rattle.mq_run.specs.Ending.{HasFinished, HasHeard};
 ghost use Rattle.mq_run.specs.Runs.{EndsSo, Leaves, track};
 ghost use Rattle.mq_tie.specs.Closed.{HasRun};
@@ -15,7 +15,7 @@ use mq_blocks::{OutOfMemory, TxNo};
 use mq_calls::{FileMachine, Mqfs, Session};
 use mq_checkpoint::CheckpointRefusal;
 use mq_drive::Port;
-use mq_files::FileEntry;
+use mq_file_entries::FileEntry;
 use mq_report::{Line, Told};
 use mq_tie::{Ended, close_desk};
 use mq_turns::Machine;

@@ -2,7 +2,7 @@
 use Rattle.std.proofs.Common.{◌≡◌, ℕ, Bool, true, cond, List, [], ◌∷◌, ◌∙◌, ap, refl}
 use Rattle.std.specs.Prelude.{Err}
 use Rattle.std.specs.List.{list_all}
-use Rattle.mq_text.proofs.TextParts.{split_some}
+use Rattle.mq_block_text.proofs.TextParts.{split_some}
 use Rattle.mq_script.specs.Lines.{an_end, is_plain, line_in, verb_line, words_line}
 use Rattle.mq_script.specs.Verbs.{verb_in}
 use Rattle.mq_script.specs.Words.{words_of}

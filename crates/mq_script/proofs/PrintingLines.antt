@@ -5,8 +5,8 @@ use Rattle.std.specs.List.{AllByRecursion, list_all}
 use Rattle.std.specs.Option.{ok_or}
 use Rattle.std.proofs.lemmas.Bool.{le-leb, and_from}
 use Rattle.std.proofs.lemmas.List.Splits.{slice_split_none, slice_split_at}
-use Rattle.mq_text.specs.Text.{hex_digit}
-use Rattle.mq_text.proofs.TextNumbers.{numeral_of}
+use Rattle.mq_block_text.specs.Text.{hex_digit}
+use Rattle.mq_block_text.proofs.TextNumbers.{numeral_of}
 use Rattle.mq_tree.specs.declared.request.Request.{Request}
 use Rattle.mq_tree.specs.declared.request.Request.TheVariants.{Mkdir as make_mkdir, Create as make_create, Write as make_write, Truncate as make_truncate, Unlink as make_unlink, Rmdir as make_rmdir, Rename as make_rename, Read as make_read, List as make_list, Stat as make_stat}
 use Rattle.mq_tree.specs.Listings.{names_text, path_text}

@@ -6,8 +6,8 @@ use Rattle.std.proofs.lemmas.List.Elements.{All-cons}
 use Rattle.std.proofs.lemmas.List.Folds.{list_all-append}
 use Rattle.std.proofs.lemmas.List.Splits.{slice_split_none, slice_split_at}
 use Rattle.std.proofs.lemmas.Bool.{and_from, and_parts}
-use Rattle.mq_text.specs.Text.{hex_digit}
-use Rattle.mq_text.proofs.TextParts.{Avoids, avoids_none}
+use Rattle.mq_block_text.specs.Text.{hex_digit}
+use Rattle.mq_block_text.proofs.TextParts.{Avoids, avoids_none}
 use Rattle.mq_script.specs.Grammar.{is_letter, IsPath, AreBytes}
 use Rattle.mq_script.specs.Printing.{pairs_text, is_quotable, data_text}
 use Rattle.mq_script.specs.Words.{data_in, names_in, onto, pairs_in, path_in}

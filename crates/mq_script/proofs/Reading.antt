@@ -3,8 +3,8 @@ use Rattle.std.proofs.Common.{◌≡◌, ℕ, true, false, eqb, cond, ◌+◌, �
 use Rattle.std.specs.Prelude.{codes, decimal, bytes_eq, Ok}
 use Rattle.std.specs.List.{AllByRecursion, list_all, slice_split, join_with_byte}
 use Rattle.std.proofs.Math.Seq.{take-append_seam, drop-append_seam}
-use Rattle.mq_text.specs.Refusals.{ended}
-use Rattle.mq_text.proofs.TextParts.{Avoids, split_of_join}
+use Rattle.mq_block_text.specs.Refusals.{ended}
+use Rattle.mq_block_text.proofs.TextParts.{Avoids, split_of_join}
 use Rattle.mq_tree.specs.declared.request.Request.{Request}
 use Rattle.mq_tree.specs.declared.request.Request.TheVariants.{Mkdir, Create, Write, Truncate, Unlink, Rmdir, Rename, Read, List as ListOf, Stat}
 use Rattle.mq_tree.specs.Listings.{path_text}

@@ -10,9 +10,9 @@ use Rattle.std.proofs.lemmas.List.Folds.{list_all-append}
 use Rattle.std.proofs.lemmas.List.Splits.{join_with_byte-slice_split}
 use Rattle.std.proofs.lemmas.Slice.Eq.{bytes_eq-Decides}
 use Rattle.std.proofs.lemmas.Option.{same_Some}
-use Rattle.mq_text.specs.Refusals.{ended}
-use Rattle.mq_text.specs.Text.{hex_digit, hex_text}
-use Rattle.mq_text.proofs.TextParts.{split_some}
+use Rattle.mq_block_text.specs.Refusals.{ended}
+use Rattle.mq_block_text.specs.Text.{hex_digit, hex_text}
+use Rattle.mq_block_text.proofs.TextParts.{split_some}
 use Rattle.mq_tree.specs.declared.request.Request.{Request}
 use Rattle.mq_tree.specs.declared.request.Request.TheVariants.{Mkdir as make_mkdir, Create as make_create, Write as make_write, Truncate as make_truncate, Unlink as make_unlink, Rmdir as make_rmdir, Rename as make_rename, Read as make_read, List as make_list, Stat as make_stat}
 use Rattle.mq_tree.specs.Listings.{names_text, path_text}

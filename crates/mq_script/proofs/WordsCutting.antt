@@ -6,7 +6,7 @@ use Rattle.std.proofs.lemmas.Bool.{ltb-true, ltb-false}
 use Rattle.std.proofs.lemmas.List.{take_all}
 use Rattle.std.proofs.lemmas.List.Splits.{slice_split_first, join_with_byte-slice_split}
 use Rattle.std.proofs.lemmas.Option.{cond_some}
-use Rattle.mq_text.proofs.TextParts.{split_some}
+use Rattle.mq_block_text.proofs.TextParts.{split_some}
 use Rattle.mq_script.specs.Words.{words_of, one_of, rest_of}
 
 abbrev pub is_space : ℕ → Bool

@@ -6,7 +6,7 @@ use Rattle.std.specs.Str.Parse.{digits_value}
 use Rattle.std.proofs.lemmas.Bool.{ltb-true, lt-ltb, and_from, and_parts}
 use Rattle.std.proofs.lemmas.Fmt.{decimal_is_IsNumeral}
 use Rattle.std.proofs.lemmas.Slice.Eq.{bytes_eq-Decides}
-use Rattle.mq_text.specs.Text.{hex_digit, hex_text}
+use Rattle.mq_block_text.specs.Text.{hex_digit, hex_text}
 use Rattle.mq_script.specs.Words.{number_in, digit_in, byte_of, byte_in}
 
 -- ---- numbers

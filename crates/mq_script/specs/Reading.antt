@@ -11,7 +11,8 @@ use Rattle.mq_script.specs.declared.refusal.ScriptCause.TheVariants.{Size, Open}
 
 -- the text without the line feed at its end, where it has one
 abbrev pub without_line_feed : List ℕ → List ℕ
-without_line_feed text = if bytes_eq (drop (length text - 1) text) (codes "\n") then take (length text - 1) text else text
+without_line_feed text =
+    if bytes_eq (drop (length text - 1) text) (codes "\n") then take (length text - 1) text else text
 
 -- the lines, each ended by a line feed, which may be missing from the last
 abbrev pub lines_of : List ℕ → List (List ℕ)
@@ -29,7 +30,9 @@ abbrev pub groups_in : ℕ → List Request → List (Answer Line) → Result (L
 groups_in before requests [] = ended_at before requests
 groups_in before requests (Err cause ∷ lines) = Err (record { line = before + 1; cause = cause })
 groups_in before requests (Ok (Asks r) ∷ lines) = groups_in (before + 1) (requests ++ r ∷ []) lines
-groups_in before requests (Ok (Ends end) ∷ lines) = made (λ groups. record { requests = requests; end = end } ∷ groups) (groups_in (before + 1) [] lines)
+groups_in before requests (Ok (Ends end) ∷ lines) =
+    made (λ groups. record { requests = requests; end = end } ∷ groups)
+    (groups_in (before + 1) [] lines)
 
 -- a script has no more than 16 MiB
 abbrev pub script_in : List ℕ → Result Script Refused

@@ -1,8 +1,8 @@
 -- Which texts spell which scripts.
 use Rattle.std.specs.Prelude.{◌≡◌, ◌<◌, ◌≤◌, ◌⊎◌, ℕ, true, List, [], ◌∷◌, ◌++◌, length, replicate, codes, decimal}
 use Rattle.std.specs.List.{list_all}
-use Rattle.mq_text.specs.Refusals.{ended}
-use Rattle.mq_text.specs.Text.{hex_text}
+use Rattle.mq_block_text.specs.Refusals.{ended}
+use Rattle.mq_block_text.specs.Text.{hex_text}
 use Rattle.mq_tree.specs.declared.request.Request.{Request}
 use Rattle.mq_tree.specs.declared.request.Request.TheVariants.{Mkdir, Create, Write, Truncate, Unlink, Rmdir, Rename, Read, List as ListOf, Stat}
 use Rattle.mq_tree.specs.Listings.{path_text}
@@ -52,7 +52,8 @@ Asks line (Truncate p size) = IsPath p × IsNumber size × (line ≡ request_tex
 Asks line (Unlink p) = IsPath p × (line ≡ request_text (Unlink p))
 Asks line (Rmdir p) = IsPath p × (line ≡ request_text (Rmdir p))
 Asks line (Rename p q) = IsPath p × IsPath q × (line ≡ request_text (Rename p q))
-Asks line (Read p offset count) = IsPath p × IsNumber offset × IsNumber count × (line ≡ request_text (Read p offset count))
+Asks line (Read p offset count) =
+    IsPath p × IsNumber offset × IsNumber count × (line ≡ request_text (Read p offset count))
 Asks line (ListOf p) = IsPath p × (line ≡ request_text (ListOf p))
 Asks line (Stat p) = IsPath p × (line ≡ request_text (Stat p))
 
@@ -72,7 +73,8 @@ end_word Ask = codes "ask"
 abbrev pub SpellAll : List (List ℕ) → List Group → Type 0
 SpellAll lines [] = lines ≡ []
 SpellAll lines (g ∷ groups) =
-    (asked : List (List ℕ)) × (rest : List (List ℕ)) × AskAll asked g.requests × (lines ≡ asked ++ end_word g.end ∷ rest) × SpellAll rest groups
+    (asked : List (List ℕ)) × (rest : List (List ℕ)) × AskAll asked g.requests
+    × (lines ≡ asked ++ end_word g.end ∷ rest) × SpellAll rest groups
 
 -- each line ends with a line feed, which may be missing from the last
 abbrev pub AreLines : List ℕ → List (List ℕ) → Type 0

@@ -20,7 +20,9 @@ verb_text Fatomic = codes "fatomic"
 verb_text Ask = codes "ask"
 
 abbrev pub verbs : List Verb
-verbs = Mkdir ∷ Create ∷ Write ∷ Truncate ∷ Unlink ∷ Rmdir ∷ Rename ∷ Read ∷ ListOf ∷ Stat ∷ Fsync ∷ Fatomic ∷ Ask ∷ []
+verbs =
+    Mkdir ∷ Create ∷ Write ∷ Truncate ∷ Unlink ∷ Rmdir ∷ Rename ∷ Read ∷ ListOf ∷ Stat ∷ Fsync ∷ Fatomic
+    ∷ Ask ∷ []
 
 -- the verb that is written so
 abbrev pub verb_in : List ℕ → Option Verb

@@ -35,13 +35,16 @@ rest_of words = None
 
 -- what follows this in a text that begins with it
 abbrev pub after : List ℕ → List ℕ → Option (List ℕ)
-after front text = if bytes_eq (take (length front) text) front then Some (drop (length front) text) else None
+after front text =
+    if bytes_eq (take (length front) text) front then Some (drop (length front) text) else None
 
 -- ---- numbers
 
 -- below 2^64, and written by its own digits: no zero stands before others
 abbrev pub number_in : List ℕ → Option ℕ
-number_in text = if bytes_eq text (decimal (digits_value 10 text)) && nat_lt (digits_value 10 text) (2 ^ 64) then Some (digits_value 10 text) else None
+number_in text =
+    if bytes_eq text (decimal (digits_value 10 text)) && nat_lt (digits_value 10 text) (2 ^ 64)
+    then Some (digits_value 10 text) else None
 
 -- ---- paths
 
@@ -64,7 +67,9 @@ quoted_in (b ∷ c ∷ text) = if b == 34 then None else option_map (λ t. b ∷
 
 -- a digit from 0 to 9 or from a to f
 abbrev pub digit_in : ℕ → Option ℕ
-digit_in d = if nat_le 48 d && nat_le d 57 then Some (d - 48) else if nat_le 97 d && nat_le d 102 then Some (d - 87) else None
+digit_in d =
+    if nat_le 48 d && nat_le d 57 then Some (d - 48) else if nat_le 97 d && nat_le d 102
+    then Some (d - 87) else None
 
 abbrev pub byte_of : Option ℕ → Option ℕ → Option ℕ
 byte_of None low = None
@@ -93,7 +98,8 @@ filled (Some b) (Some n) = if nat_le n 4243456 then Some (replicate n b) else No
 
 -- a byte's two digits, a colon and a count
 abbrev pub fill_in : List ℕ → Option (List ℕ)
-fill_in (high ∷ low ∷ colon ∷ count) = if colon == 58 then filled (byte_in high low) (number_in count) else None
+fill_in (high ∷ low ∷ colon ∷ count) =
+    if colon == 58 then filled (byte_in high low) (number_in count) else None
 fill_in text = None
 
 -- the form that the text begins as, if it is one

@@ -30,7 +30,8 @@ writing path offset count byte = Create path ∷ Write path offset (replicate co
 abbrev pub requests_of : (thread word : ℕ) → List Request
 requests_of thread word =
     let path = file_of thread (word % 16) in
-    if nat_le (word / 16 % 4) 1 then writing path (word / 2 ^ 20 % 20000) (word / 64 % 9000) (word / 2 ^ 40 % 256)
+    if nat_le (word / 16 % 4) 1
+    then writing path (word / 2 ^ 20 % 20000) (word / 64 % 9000) (word / 2 ^ 40 % 256)
     else if word / 16 % 4 == 2 then Truncate path (word / 64 % 9000) ∷ []
     else Unlink path ∷ []
 
@@ -42,15 +43,21 @@ end_of number groups = if (number % 4 == 0) || (number == groups) then Fsync els
 abbrev pub groups_from : (left thread number groups : ℕ) → Lcg → List Group
 groups_from zero thread number groups rng = []
 groups_from (suc left) thread number groups rng =
-    record { requests = requests_of thread (pcg64 rng).0; end = end_of number groups } ∷ groups_from left thread (number + 1) groups (pcg64 rng).1
+    record { requests = requests_of thread (pcg64 rng).0; end = end_of number groups }
+    ∷ groups_from left thread (number + 1) groups (pcg64 rng).1
 
 abbrev pub script_of : (seed thread groups : ℕ) → Script
-script_of seed thread groups = record { groups = record { requests = Mkdir (directory_of thread) ∷ []; end = Fsync } ∷ groups_from groups thread 1 groups (generator_of seed thread) }
+script_of seed thread groups =
+    record {
+      groups = record { requests = Mkdir (directory_of thread) ∷ []; end = Fsync }
+          ∷ groups_from groups thread 1 groups (generator_of seed thread);
+    }
 
 -- `left` scripts, from this thread on
 abbrev pub scripts_from : (left seed thread groups : ℕ) → List Script
 scripts_from zero seed thread groups = []
-scripts_from (suc left) seed thread groups = script_of seed thread groups ∷ scripts_from left seed (thread + 1) groups
+scripts_from (suc left) seed thread groups =
+    script_of seed thread groups ∷ scripts_from left seed (thread + 1) groups
 
 abbrev pub workload_of : (seed threads groups : ℕ) → List Script
 workload_of seed threads groups = scripts_from threads seed 0 groups

@@ -2,7 +2,7 @@
 ghost use Rattle.std.specs.Prelude.{◌≡◌};
 ghost use Rattle.mq_script.specs.Words.{byte_in, number_in};
 
-use mq_text::{read_hex, read_number};
+use mq_block_text::{read_hex, read_number};
 
 /// The byte of two digits.
 pub fn byte_of(high: u8, low: u8) -> Option<u8>

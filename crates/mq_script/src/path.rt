@@ -6,7 +6,7 @@ ghost use Rattle.mq_script.specs.Words.{path_in};
 ghost use Rattle.mq_script.specs.declared.refusal.ScriptCause.TheVariants.{Path as not_a_path};
 
 use crate::refusal::{LineRefusal, ScriptCause};
-use mq_text::cut_at;
+use mq_block_text::cut_at;
 use mq_tree::{Name, Path};
 use std::alloc::Global;
 

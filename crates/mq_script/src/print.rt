@@ -1,7 +1,7 @@
 // Printing a script.
 ghost use Rattle.std.specs.Prelude.{◌≡◌, ◌<◌, ◌++◌, ◌∷◌, IfOk, OnOk, decimal};
 ghost use Rattle.std.specs.List.{list_all};
-ghost use Rattle.mq_text.specs.Text.{hex_digit};
+ghost use Rattle.mq_block_text.specs.Text.{hex_digit};
 ghost use Rattle.mq_tree.specs.Listings.{names_text, path_text};
 ghost use Rattle.mq_script.specs.Printing.{pairs_text, is_quotable, data_text};
 ghost use Rattle.mq_script.specs.Printing.{request_text, end_text, requests_text, groups_text, script_text};

@@ -7,7 +7,7 @@ ghost use Rattle.mq_script.specs.Spelled.{Spells};
 use crate::group::{Group, Script};
 use crate::line::{Line, read_line};
 use crate::refusal::{LineRefusal, ScriptCause, ScriptRefusal};
-use mq_text::cut_at;
+use mq_block_text::cut_at;
 use std::alloc::{AllocError, Global};
 use std::mem;
 

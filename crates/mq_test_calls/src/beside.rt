@@ -4,7 +4,7 @@ use crate::hold::Hold;
 use crate::together::{Answers, Course, Step};
 use mq_blocks::{Geometry, OutOfMemory, TxNo};
 use mq_drive::PortImage;
-use mq_images::drive_power;
+use mq_image_ops::drive_power;
 use mq_script::{Group, read_script};
 use std::alloc::Global;
 use std::sync::Wait;

@@ -5,8 +5,8 @@ ghost use Rattle.mq_blocks.specs.Geometry.{queues_of};
 ghost use Rattle.mq_calls.specs.Sessions.{IsReady};
 ghost use Rattle.mq_drive.specs.Seats.{name_of};
 ghost use Rattle.mq_image.specs.File.{DriveImage as Image};
-ghost use Rattle.mq_images.specs.Recovering.{IsRecoveryOf};
-ghost use Rattle.mq_images.specs.Starts.{AreFreshSeats};
+ghost use Rattle.mq_image_ops.specs.Recovering.{IsRecoveryOf};
+ghost use Rattle.mq_image_ops.specs.Starts.{AreFreshSeats};
 ghost use Rattle.mq_recover.specs.Drives.{IsQuiescentDrive, drive_of};
 ghost use Rattle.mq_recover.specs.Recovery.{IsStartDrive};
 ghost use Rattle.mq_turns.specs.AtDesk.{AtDesk, chairs_of, view};
@@ -16,7 +16,7 @@ use crate::together::{Answers, Called, Course, call_both};
 use mq_blocks::{Geometry, OutOfMemory};
 use mq_calls::{Mqfs, Session, find_volume};
 use mq_drive::{Fuse, FuseSeat, Port, Ports};
-use mq_images::{
+use mq_image_ops::{
     CutDrive, RecoveredImage, StandingRefusal, a_recovered_image_starts, cut_ports, format_drive,
     recover_image, start_ports,
 };

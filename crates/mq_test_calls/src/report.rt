@@ -2,9 +2,9 @@
 // memory makes.
 use mq_blocks::TxNo;
 use mq_calls::{CallCause, Refusal};
+use mq_queue_side::Cause;
 use mq_report::{Last, Told, report};
 use mq_script::End;
-use mq_side::Cause;
 
 const TEXT: &str =
     "base 7\nanswer 0 0 failed 9 640 -\nanswer 0 1 memory\nanswer 0 2 off -\nstopped tx 9\n";

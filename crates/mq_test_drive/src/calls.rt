@@ -8,8 +8,9 @@ ghost use Rattle.mq_drive.specs.declared.role.Role.TheVariants.{Queue};
 use crate::driven::{Driven, Went};
 use crate::ports::{emulated, powered, small};
 use mq_blocks::{Geometry, OutOfMemory, TxNo};
-use mq_drive::{FlakyPort, Port};
-use mq_side::{Cause, Why};
+use mq_drive::Port;
+use mq_queue_side::{Cause, Why};
+use mq_watch::FlakyPort;
 use std::alloc::Global;
 
 // What a case does with its side, and what it finds there.

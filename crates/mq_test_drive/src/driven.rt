@@ -1,19 +1,20 @@
 // A side that sends only what it has room for.
 ghost use Rattle.std.specs.Prelude.{◌≡◌, ◌<◌, ◌≤◌, ◌+◌, ◌^◌, [], length, map, IsTrue, None};
 ghost use Rattle.mq_blocks.specs.Drive.{IsQuiescent};
-ghost use Rattle.mq_blocks.specs.Geometry.{queues_of, area_of, meta_of, zone_size};
+ghost use Rattle.mq_blocks.specs.Geometry.{queues_of, area_of, meta_of, zone_size, write_limit};
 ghost use Rattle.mq_drive.specs.Start.{IsPortOf};
 ghost use Rattle.mq_drive.specs.declared.role.Role.TheVariants.{Queue};
 ghost use Rattle.mq_revoke.specs.Placing.{AreInOrder, IsPlacement};
-ghost use Rattle.mq_side.specs.Stored.{rows_of, next_in, FitIs};
-ghost use Rattle.mq_side.specs.declared.answers.Fit.TheVariants.{Yes};
+ghost use Rattle.mq_queue_side.specs.Commits.{descriptor_size};
+ghost use Rattle.mq_queue_side.specs.Stored.{rows_of, next_in, FitIs};
+ghost use Rattle.mq_queue_side.specs.declared.answers.Fit.TheVariants.{Yes};
 
 use crate::change::{Change, filling, spoil};
-use mq_blocks::{Geometry, QueueNo, TxNo};
+use mq_blocks::{Geometry, QueueNo, TxNo, further_blocks};
 use mq_drive::{Off, Port};
 use mq_pmr::PmrQueue;
+use mq_queue_side::{Cause, Drawn, Fit, Numbered, QueueSide, Why};
 use mq_revoke::{Placement, plan};
-use mq_side::{Cause, Drawn, Fit, Numbered, QueueSide, Why};
 use std::alloc::Global;
 
 const QUEUE: QueueNo = QueueNo(0);
@@ -125,13 +126,21 @@ impl<P: Port> Driven<P> {
         self.side.kept().is_none() && self.end < 1 << 62 && next_place(self.side.stored()) < 1 << 61
     }
 
+    // How many blocks the descriptor of the planned transaction has, each with an entry.
+    fn descriptor_blocks(&self) -> u64
+        ensures is { result ≡ descriptor_size (length self.now.plan.logged) (length self.now.plan.revoked) }
+        ensures few { result ≤ 2 }
+    {
+        further_blocks(self.plan.logged.len() as u64 + self.plan.revoked.len() as u64) + 1
+    }
+
     // Prepares it, draws it and sends it. The pages change before they are sent.
     fn send(&mut self, alloc: Global, tx: u8, change: Change) -> Went
         requires number { 1 ≤ tx }
         requires same { map (λ w. w.block) change.writes.items ≡ map (λ w. w.block) change.planned.items }
         requires order { AreInOrder self.old.geometry change.planned.items }
         requires plan { IsPlacement self.old.geometry 0 0 0 change.planned.items self.old.plan }
-        requires few { length change.planned.items ≤ 1000 }
+        requires few { length change.planned.items ≤ write_limit self.old.geometry }
         requires whole { length self.old.plan.logged + length self.old.plan.direct
             ≡ length change.planned.items }
         requires fits { FitIs (area_of self.old.geometry) 0 (rows_of self.old.side.stored.items)
@@ -140,7 +149,7 @@ impl<P: Port> Driven<P> {
         if !self.may_send() {
             return Went::Refused;
         }
-        let entries = change.planned.len() as u64 + 1;
+        let entries = change.planned.len() as u64 + self.descriptor_blocks();
         let Change {
             mut writes,
             planned: _,

@@ -1,6 +1,6 @@
 // A write request and the completion of a write fault as they stand in memory.
 ghost use Rattle.std.specs.Prelude.{◌<◌, ◌≤◌};
-ghost use Rattle.mq_blocks.specs.Drive.{depth};
+ghost use Rattle.mq_blocks.specs.Limits.{depth};
 
 use mq_nvme::{
     Completion, Dwords, Ended, Entry, EntryRefusal, WRITE_FAULT, WriteReq, completion_of,

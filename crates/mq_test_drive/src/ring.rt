@@ -8,8 +8,9 @@ ghost use Rattle.mq_pmr.specs.Runs.{OwnsAll};
 
 use crate::ports::{emulated, powered, small};
 use mq_blocks::{Block, Geometry, Lba, OutOfMemory, QueueNo, TxNo};
-use mq_drive::{FlakyPort, Off, Port, PortImage};
+use mq_drive::{Off, Port, PortImage};
 use mq_pmr::{PmrQueue, Took};
+use mq_watch::FlakyPort;
 use std::alloc::Global;
 
 // Items for the Lbas from 0 on.

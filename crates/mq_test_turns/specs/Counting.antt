@@ -20,7 +20,9 @@ module _ {E : Type 0} (queue : E → ℕ) where
   module _ {Q : Type 0} (state : Q → ℕ) where
     -- the port has counted the votes, from what it stood at when the desk was opened
     abbrev pub Counted : ℕ → Known ℕ Q ℕ E → Q → Type 0
-    Counted q K x = state x % 18446744073709551616 ≡ (slice_index_or (map state K.opening.sides) q 0 + votes q K.log) % 18446744073709551616
+    Counted q K x =
+        state x % 18446744073709551616
+        ≡ (slice_index_or (map state K.opening.sides) q 0 + votes q K.log) % 18446744073709551616
 
 module _ {E Q : Type 0} (queue session group : E → ℕ) (state : Q → ℕ) where
   abbrev pub counting : Meaning ℕ Q ℕ E

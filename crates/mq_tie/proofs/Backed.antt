@@ -10,14 +10,14 @@ use Rattle.mq_drive.specs.declared.port.Port.{Ghosts}
 use Rattle.mq_journal.specs.Numbers.{Seat, Shared, Start}
 use Rattle.mq_journal.specs.Values.{side_values}
 use Rattle.mq_recover.specs.Drives.{DriveFaults, faults_of}
-use Rattle.mq_rules.specs.Faults.{AreCharged, WasGained, named_by}
-use Rattle.mq_rules.specs.Groups.{GroupView}
-use Rattle.mq_rules.specs.Rule.{IsOfPort, IsPortTurn, IsSide, geometry_of, shape_of}
-use Rattle.mq_rules.specs.Rule as rule
-use Rattle.mq_rules.specs.Values.{Values}
-use Rattle.mq_rules.proofs.Opening.{at_map}
-use Rattle.mq_side.specs.declared.root.Root.{Root}
-use Rattle.mq_side.specs.declared.side.QueueSide.{QueueSide}
+use Rattle.mq_desk_laws.specs.Faults.{AreCharged, WasGained, named_by}
+use Rattle.mq_desk_laws.specs.Groups.{GroupView}
+use Rattle.mq_desk_laws.specs.Rule.{IsOfPort, IsPortTurn, IsSide, geometry_of, shape_of}
+use Rattle.mq_desk_laws.specs.Rule as rule
+use Rattle.mq_desk_laws.specs.Values.{Values}
+use Rattle.mq_desk_laws.proofs.Opening.{at_map}
+use Rattle.mq_queue_side.specs.declared.root.Root.{Root}
+use Rattle.mq_queue_side.specs.declared.side.QueueSide.{QueueSide}
 use Rattle.mq_tie.specs.Backed.{IsBehind, IsBehindAt, faults_at, opened_faults}
 use Rattle.mq_tie.specs.Closed.{HasRun}
 use Rattle.mq_tie.specs.Runs.{ports_of}

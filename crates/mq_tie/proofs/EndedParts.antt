@@ -2,18 +2,19 @@
 use Rattle.std.proofs.Common.{◌≡◌, ℕ, zero, suc, ◌+◌, ◌<◌, ◌≤◌, false, List, [], ◌∷◌, length, Some, refl, sym, ap, subst, ◌∙◌, arith}
 use Rattle.std.specs.Prelude.{slice_get}
 use lib.ListN.{length-map}
+use Rattle.mq_ledger.proofs.Written.{form_sound}
 use Rattle.mq_ledger.specs.History.{of_queue}
 use Rattle.mq_ledger.specs.Sides.{SideOk}
 use Rattle.mq_ledger.specs.State.{no_port}
-use Rattle.mq_ends.specs.Parts.{AreMarks, AreParts, known, marks_from}
-use Rattle.mq_ends.proofs.PartsMarks.{marks_at, marks_length}
+use Rattle.mq_state_laws.specs.Parts.{AreMarks, AreParts, known, marks_from}
+use Rattle.mq_state_laws.proofs.PartsMarks.{marks_at, marks_length}
 use Rattle.mq_turns.specs.Marks.{is_claimed, mark_of}
 use Rattle.mq_turns.specs.Meaning.{HasNumberAt}
-use Rattle.mq_rules.specs.Groups.{GroupView}
-use Rattle.mq_rules.specs.Rule.{DeskState, core_of, geometry_of, history_of}
-use Rattle.mq_rules.specs.Values.{Values}
-use Rattle.mq_rules.proofs.Opening.{at_map}
-use Rattle.mq_rules.proofs.RuleSettled.{entry_at}
+use Rattle.mq_desk_laws.specs.Groups.{GroupView}
+use Rattle.mq_desk_laws.specs.Rule.{DeskState, core_of, geometry_of, history_of}
+use Rattle.mq_desk_laws.specs.Values.{Values}
+use Rattle.mq_desk_laws.proofs.Opening.{at_map}
+use Rattle.mq_desk_laws.proofs.RuleSettled.{entry_at}
 use Rattle.mq_tie.specs.Ended.{HasEnded, parts}
 
 pub there : {A : Type 0} (xs : List A) (i : ℕ) → i < length xs → (x : A) × (slice_get xs i ≡ Some x)
@@ -28,6 +29,7 @@ module _ {Q R E : Type 0} (values : Values Q R E) (group : GroupView E) (K : Des
 
   pub ended_parts : AreParts (parts values group K sides root acknowledged)
   ended_parts = record {
+    form = form_sound;
     log = end.ok.log;
     many = length-map sides values.port ∙ end.many;
     sides = λ q own.

@@ -6,9 +6,9 @@ use Rattle.mq_ledger.specs.History.{change_of, map_after, upto}
 use Rattle.mq_ledger.specs.declared.tx.Tx.{Tx}
 use Rattle.mq_ledger.proofs.History.{upto-at, upto-past}
 use Rattle.mq_pages.specs.declared.page.PageCell.{PageCell}
-use Rattle.mq_rules.specs.Groups.{GroupView}
-use Rattle.mq_rules.specs.Rule
-use Rattle.mq_rules.specs.Values.{Values}
+use Rattle.mq_desk_laws.specs.Groups.{GroupView}
+use Rattle.mq_desk_laws.specs.Rule
+use Rattle.mq_desk_laws.specs.Values.{Values}
 use Rattle.mq_turns.specs.Meaning.{Grows, HasNumberAt, newest}
 use Rattle.mq_turns.specs.declared.rule.Opening.{Opening}
 use Rattle.mq_tie.specs.Legal.{IsCommit, IsRead, map_at}

@@ -1,21 +1,24 @@
 -- The ports that a closed desk gives back.
-use Rattle.std.proofs.Common.{◌≡◌, ℕ, List, [], length, map, Some, None, sym, ap, subst, ◌∙◌, arith}
+use Rattle.std.proofs.Common.{◌≡◌, ◌<◌, ℕ, List, [], length, map, Some, None, sym, ap, subst, ◌∙◌, arith}
 use Rattle.std.specs.Prelude.{slice_get, slice_index_or}
 use Rattle.std.proofs.lemmas.List.{length-map}
 use Rattle.mq_blocks.specs.Drive.{PortState, IsBoundKept, IsFlushed}
 use Rattle.mq_blocks.specs.Ports.{IsPort}
 use Rattle.mq_blocks.specs.declared.geometry.Geometry.{Geometry}
+use Rattle.mq_drive.specs.Roles.{queue_in}
 use Rattle.mq_drive.specs.Start.{IsPortOf}
 use Rattle.mq_drive.specs.Steps.{PortFault}
 use Rattle.mq_drive.specs.declared.port.Port.{Ghosts}
+use Rattle.mq_drive.specs.declared.role.Role.{Role}
 use Rattle.mq_drive.specs.declared.role.Role.TheVariants.{Queue, Root}
+use Rattle.mq_drive.proofs.StartRolePorts.{is-port_of}
 use Rattle.mq_journal.specs.Numbers.{Seat, Start}
 use Rattle.mq_journal.specs.Values.{side_values}
 use Rattle.mq_ledger.specs.State.{port_at}
-use Rattle.mq_rules.specs.Groups.{GroupView}
-use Rattle.mq_rules.specs.Rule.{IsRoot, IsSide, geometry_of, port_of, shape_of}
-use Rattle.mq_rules.proofs.Opening.{at_map}
-use Rattle.mq_side.specs.declared.side.QueueSide.{QueueSide}
+use Rattle.mq_desk_laws.specs.Groups.{GroupView}
+use Rattle.mq_desk_laws.specs.Rule.{IsRoot, IsSide, geometry_of, port_of, shape_of}
+use Rattle.mq_desk_laws.proofs.Opening.{at_map}
+use Rattle.mq_queue_side.specs.declared.side.QueueSide.{QueueSide}
 use Rattle.mq_tie.specs.Closed.{HasRun}
 use Rattle.mq_tie.specs.Ports.{KeepsPorts, StaysPort, opened_states}
 use Rattle.mq_tie.specs.Runs.{ports_of}
@@ -23,34 +26,13 @@ use Rattle.mq_tie.specs.declared.ended.Ended.{Ended}
 use Rattle.mq_tie.proofs.Runs.{same-ports}
 use Rattle.mq_tie.proofs.EndedParts.{there as found}
 
-side-port : (g : Geometry) (q : ℕ) (p : PortState) → IsPort g (Some q) p → ((n : ℕ) → IsFlushed p n → slice_index_or p.staged n [] ≡ slice_index_or p.flushed n []) → IsPortOf g (Queue q) p
-side-port g q p is settled = record {
-  queue = is.queue;
-  area_first = is.area_first;
-  area_size = is.area_size;
-  homes_first = is.homes_first;
-  homes_size = is.homes_size;
-  flushed = is.flushed;
-  staged = is.staged;
-  blocks = is.blocks;
-  certain = is.certain ∙ sym is.blocks;
-  settled = λ k lt there. sym (settled k there);
-}
+-- a port where nothing but what was staged since the last flush differs from what was flushed
+role-port : (g : Geometry) (role : Role) (p : PortState) → IsPort g (queue_in role) p → ((n : ℕ) → n < length p.flushed → IsFlushed p n → slice_index_or p.staged n [] ≡ slice_index_or p.flushed n []) → IsPortOf g role p
+role-port g role p is settled = is-port_of is (λ k lt there. sym (settled k lt there))
 
 -- the root has no ring
 root-port : (g : Geometry) (p : PortState) → IsPort g None p → IsPortOf g Root p
-root-port g p is = record {
-  queue = is.queue;
-  area_first = is.area_first;
-  area_size = is.area_size;
-  homes_first = is.homes_first;
-  homes_size = is.homes_size;
-  flushed = is.flushed;
-  staged = is.staged;
-  blocks = is.blocks;
-  certain = is.certain ∙ sym is.blocks;
-  settled = λ k lt there. let none = is.flushed in absurd (omega arith);
-}
+root-port g p is = role-port g Root p is (λ k lt there. let none = is.flushed in absurd (omega arith))
 
 module _ {P E : Type 0} {G : Ghosts P} (state : P → PortState) (faults : P → List PortFault) (group : GroupView E) (o : Start P E G) (views : List (Seat P E G)) (r : Ended P E G) (run : HasRun state faults group o views r) where
   abbrev shape : Geometry
@@ -63,7 +45,7 @@ module _ {P E : Type 0} {G : Ghosts P} (state : P → PortState) (faults : P →
   stays q w at =
       let is : IsSide (side_values state faults) group q run.end.known w = run.end.sides_stand q w at in
       record {
-        port = subst (λ (z : Geometry). IsPortOf z (Queue q) (state w.pmr.port)) shape-is (side-port _ q (state w.pmr.port) is.port.port is.port.ring.settled);
+        port = subst (λ (z : Geometry). IsPortOf z (Queue q) (state w.pmr.port)) shape-is (role-port _ (Queue q) (state w.pmr.port) is.port.port (λ n lt there. is.port.ring.settled n there));
         bound = subst (λ (z : Start P E G). IsBoundKept (port_of (side_values state faults) group z q) (state w.pmr.port)) run.end.opening is.says.is.bound;
       }
 

@@ -11,15 +11,15 @@ use Rattle.mq_ledger.specs.History.{of_queue}
 use Rattle.mq_ledger.specs.State.{no_port, port_at}
 use Rattle.mq_ledger.specs.declared.tx.Tx.{Tx}
 use Rattle.mq_recover.specs.Drives.{faults_of}
-use Rattle.mq_rules.specs.Groups.{GroupView}
-use Rattle.mq_rules.specs.Rule.{IsSide, doorbell_of, own_of, part_of, port_of}
-use Rattle.mq_rules.specs.Rule as rule
-use Rattle.mq_rules.specs.Values.{Part, Values}
-use Rattle.mq_rules.proofs.Opening.{at_map}
-use Rattle.mq_side.specs.Counts.{most_events}
-use Rattle.mq_side.specs.Side.{SideState, side_state}
-use Rattle.mq_side.specs.declared.root.Root.{Root}
-use Rattle.mq_side.specs.declared.side.QueueSide.{QueueSide}
+use Rattle.mq_desk_laws.specs.Groups.{GroupView}
+use Rattle.mq_desk_laws.specs.Rule.{IsSide, doorbell_of, own_of, part_of, port_of}
+use Rattle.mq_desk_laws.specs.Rule as rule
+use Rattle.mq_desk_laws.specs.Values.{Part, Values}
+use Rattle.mq_desk_laws.proofs.Opening.{at_map}
+use Rattle.mq_queue_side.specs.Counts.{most_events}
+use Rattle.mq_queue_side.specs.Side.{SideState, side_state}
+use Rattle.mq_queue_side.specs.declared.root.Root.{Root}
+use Rattle.mq_queue_side.specs.declared.side.QueueSide.{QueueSide}
 use Rattle.mq_tie.specs.Backed.{faults_at}
 use Rattle.mq_tie.specs.Closed.{HasRun}
 use Rattle.mq_tie.specs.Legal.{numbered}

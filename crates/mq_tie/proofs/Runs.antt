@@ -7,18 +7,18 @@ use Rattle.mq_blocks.specs.Drive.{PortState}
 use Rattle.mq_blocks.specs.Journal.{is_among}
 use Rattle.mq_drive.specs.Steps.{PortFault}
 use Rattle.mq_drive.specs.declared.port.Port.{Ghosts}
-use Rattle.mq_ends.proofs.PartsAssembly.{lawful}
-use Rattle.mq_ends.specs.Parts.{AreMarks, AreParts, marks_from}
+use Rattle.mq_state_laws.proofs.PartsAssembly.{lawful}
+use Rattle.mq_state_laws.specs.Parts.{AreMarks, AreParts, marks_from}
 use Rattle.mq_journal.specs.Numbers.{Seat, Shared, Start}
 use Rattle.mq_journal.specs.Values.{side_values}
 use Rattle.mq_journal.specs.Machine.{journal}
 use Rattle.mq_ledger.specs.KnownJournal.{front}
 use Rattle.mq_pages.specs.declared.page.PageCell.{PageCell}
-use Rattle.mq_rules.specs.Groups.{GroupView}
-use Rattle.mq_rules.specs.Rule.{core_of, geometry_of}
-use Rattle.mq_rules.proofs.RuleSettled.{front_claimed}
-use Rattle.mq_side.specs.declared.root.Root.{Root}
-use Rattle.mq_side.specs.declared.side.QueueSide.{QueueSide}
+use Rattle.mq_desk_laws.specs.Groups.{GroupView}
+use Rattle.mq_desk_laws.specs.Rule.{core_of, geometry_of}
+use Rattle.mq_desk_laws.proofs.RuleSettled.{front_claimed}
+use Rattle.mq_queue_side.specs.declared.root.Root.{Root}
+use Rattle.mq_queue_side.specs.declared.side.QueueSide.{QueueSide}
 use Rattle.mq_turns.specs.Chairs.{DeskEnded}
 use Rattle.mq_turns.specs.Lists.{Each}
 use Rattle.mq_turns.specs.Marks.{mark_of}

@@ -5,7 +5,7 @@ use Rattle.std.proofs.lemmas.Bool.{cases_lt}
 use Rattle.std.proofs.lemmas.Option.{same_Some}
 use mathlib.Core.Logic.{dite}
 use native.Mathlib.Decide.{ℕ_discrete}
-use Rattle.mq_side.specs.declared.drawn.Drawn.{Drawn}
+use Rattle.mq_queue_side.specs.declared.drawn.Drawn.{Drawn}
 use Rattle.mq_tie.specs.declared.ended.EntryPlace.{EntryPlace}
 use Rattle.mq_tie.specs.Legal.{numbered}
 use Rattle.mq_tie.specs.Stored.{IsNoted, drawn_at, entries_at, with_found}

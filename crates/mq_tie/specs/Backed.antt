@@ -8,9 +8,9 @@ use Rattle.mq_drive.specs.declared.port.Port.{Ghosts}
 use Rattle.mq_journal.specs.Numbers.{Seat, Start}
 use Rattle.mq_journal.specs.Values.{side_values}
 use Rattle.mq_recover.specs.Drives.{DriveFaults, faults_of}
-use Rattle.mq_rules.specs.Faults.{WasGained, named_by}
-use Rattle.mq_rules.specs.Groups.{GroupView}
-use Rattle.mq_rules.specs.Rule.{shape_of}
+use Rattle.mq_desk_laws.specs.Faults.{WasGained, named_by}
+use Rattle.mq_desk_laws.specs.Groups.{GroupView}
+use Rattle.mq_desk_laws.specs.Rule.{shape_of}
 use Rattle.mq_tie.specs.Closed.{HasRun}
 use Rattle.mq_tie.specs.Runs.{ports_of}
 use Rattle.mq_tie.specs.declared.ended.Ended.{Ended}
@@ -32,10 +32,12 @@ IsBehind g report old new = (2 ^ 64 - 1 ≤ length new) ⊎ WasGained (named_by 
 -- The turn is that of a port of the drive, and what it has gained is behind the report.
 abbrev pub IsBehindAt : Geometry → Turn → Report → DriveFaults → DriveFaults → Type 0
 IsBehindAt g (Page b) report old new = ⊥
-IsBehindAt g (Side q) report old new = (q < length old.queues) × IsBehind g report (faults_at old q) (faults_at new q)
+IsBehindAt g (Side q) report old new =
+    (q < length old.queues) × IsBehind g report (faults_at old q) (faults_at new q)
 IsBehindAt g Root report old new = IsBehind g report old.root new.root
 
-module _ {P E : Type 0} (G : Ghosts P) (state : P → PortState) (faults : P → List PortFault) (group : GroupView E) where
+module _ {P E : Type 0} (G : Ghosts P) (state : P → PortState) (faults : P → List PortFault)
+    (group : GroupView E) where
   -- the faults of the ports that a desk was opened with
   abbrev pub opened_faults : Start P E G → DriveFaults
   opened_faults o = record { queues = map (λ s. faults s.pmr.port) o.sides; root = faults o.root.port }
@@ -47,4 +49,5 @@ module _ {P E : Type 0} (G : Ghosts P) (state : P → PortState) (faults : P →
       (o : Start P E G) (views : List (Seat P E G)) (r : Ended P E G) (c : Charge)
       → HasRun state faults group o views r
       → Contains (charged_of views) c
-      → IsBehindAt (shape_of (side_values state faults) group o) c.port c.report (opened_faults o) (faults_of faults (ports_of r) r.root.port)
+      → IsBehindAt (shape_of (side_values state faults) group o) c.port c.report (opened_faults o)
+      (faults_of faults (ports_of r) r.root.port)

@@ -4,12 +4,12 @@ use Rattle.mq_blocks.specs.Drive.{PortState}
 use Rattle.mq_blocks.specs.Journal.{is_among}
 use Rattle.mq_ledger.specs.KnownJournal.{front}
 use Rattle.mq_ledger.specs.Written.{journal_entries}
-use Rattle.mq_base.specs.Pages.{due_by}
-use Rattle.mq_ends.specs.Parts.{Parts}
+use Rattle.mq_base_laws.specs.Pages.{due_by}
+use Rattle.mq_state_laws.specs.Parts.{Parts}
 use Rattle.mq_turns.specs.Marks.{is_claimed}
-use Rattle.mq_rules.specs.Groups.{GroupView}
-use Rattle.mq_rules.specs.Rule.{DeskState, IsOk, IsSide, IsRoot, core_of, geometry_of, history_of}
-use Rattle.mq_rules.specs.Values.{Values}
+use Rattle.mq_desk_laws.specs.Groups.{GroupView}
+use Rattle.mq_desk_laws.specs.Rule.{DeskState, IsOk, IsSide, IsRoot, core_of, geometry_of, history_of}
+use Rattle.mq_desk_laws.specs.Values.{Values}
 
 module _ {Q R E : Type 0} (values : Values Q R E) (group : GroupView E) where
   -- what is known on the desk, over these ports of the queues and of the root

@@ -10,8 +10,8 @@ use Rattle.mq_drive.specs.declared.role.Role.TheVariants.{Queue, Root}
 use Rattle.mq_journal.specs.Numbers.{Seat, Start}
 use Rattle.mq_journal.specs.Values.{side_values}
 use Rattle.mq_ledger.specs.State.{port_at}
-use Rattle.mq_rules.specs.Groups.{GroupView}
-use Rattle.mq_rules.specs.Rule.{shape_of}
+use Rattle.mq_desk_laws.specs.Groups.{GroupView}
+use Rattle.mq_desk_laws.specs.Rule.{shape_of}
 use Rattle.mq_tie.specs.Closed.{HasRun}
 use Rattle.mq_tie.specs.Runs.{ports_of}
 use Rattle.mq_tie.specs.declared.ended.Ended.{Ended}
@@ -22,7 +22,8 @@ pub record StaysPort (g : Geometry) (role : Role) (old new : PortState) : Type 0
   pub port : IsPortOf g role new
   pub bound : IsBoundKept old new
 
-module _ {P E : Type 0} (G : Ghosts P) (state : P → PortState) (faults : P → List PortFault) (group : GroupView E) where
+module _ {P E : Type 0} (G : Ghosts P) (state : P → PortState) (faults : P → List PortFault)
+    (group : GroupView E) where
   -- the states of the ports that a desk was opened with
   abbrev pub opened_states : Start P E G → List PortState
   opened_states o = map (λ s. state s.pmr.port) o.sides
@@ -31,8 +32,13 @@ module _ {P E : Type 0} (G : Ghosts P) (state : P → PortState) (faults : P →
   -- command.
   pub record KeepsPorts (o : Start P E G) (r : Ended P E G) : Type 0 where
     pub count : length (ports_of r) ≡ length o.sides
-    pub queues : (q : ℕ) → q < length o.sides → StaysPort (shape_of (side_values state faults) group o) (Queue q) (port_at (opened_states o) q) (port_at (map state (ports_of r)) q)
-    pub root : StaysPort (shape_of (side_values state faults) group o) Root (state o.root.port) (state r.root.port)
+    pub queues : (q : ℕ) → q < length o.sides
+        → StaysPort (shape_of (side_values state faults) group o) (Queue q)
+        (port_at (opened_states o) q) (port_at (map state (ports_of r)) q)
+    pub root : StaysPort (shape_of (side_values state faults) group o) Root (state o.root.port)
+        (state r.root.port)
 
   abbrev pub RunsKeepTheirPorts : Type 0
-  RunsKeepTheirPorts = (o : Start P E G) (views : List (Seat P E G)) (r : Ended P E G) → HasRun state faults group o views r → KeepsPorts o r
+  RunsKeepTheirPorts =
+      (o : Start P E G) (views : List (Seat P E G)) (r : Ended P E G)
+      → HasRun state faults group o views r → KeepsPorts o r

@@ -9,9 +9,9 @@ use Rattle.mq_ledger.specs.History.{of_queue}
 use Rattle.mq_ledger.specs.State.{port_at}
 use Rattle.mq_ledger.specs.declared.tx.Tx.{Tx}
 use Rattle.mq_recover.specs.Drives.{faults_of}
-use Rattle.mq_rules.specs.Groups.{GroupView}
-use Rattle.mq_rules.specs.Rule.{numbered}
-use Rattle.mq_side.specs.Counts.{most_events}
+use Rattle.mq_desk_laws.specs.Groups.{GroupView}
+use Rattle.mq_desk_laws.specs.Rule.{numbered}
+use Rattle.mq_queue_side.specs.Counts.{most_events}
 use Rattle.mq_tie.specs.Backed.{faults_at}
 use Rattle.mq_tie.specs.Closed.{HasRun}
 use Rattle.mq_tie.specs.Ports.{opened_states}
@@ -29,11 +29,14 @@ pub record RangOnceEach (txs : List Tx) (faults : List PortFault) (old new : Por
   pub rings : new.rings ≡ counted old.rings (rung_of old.doorbell txs new.doorbell)
   pub events : (2 ^ 64 - 1 ≤ length faults) ⊎ (new.events ≤ old.events + most_events txs + length faults)
 
-module _ {P E : Type 0} (G : Ghosts P) (state : P → PortState) (faults : P → List PortFault) (group : GroupView E) where
+module _ {P E : Type 0} (G : Ghosts P) (state : P → PortState) (faults : P → List PortFault)
+    (group : GroupView E) where
   -- so did the port of each queue, between the opening of a desk and its end
   abbrev pub CommitsRingOnce : Type 0
   CommitsRingOnce =
       (o : Start P E G) (views : List (Seat P E G)) (r : Ended P E G) (q : ℕ)
       → HasRun state faults group o views r
       → q < length o.sides
-      → RangOnceEach (txs_in group q (history_of r)) (faults_at (faults_of faults (ports_of r) r.root.port) q) (port_at (opened_states G state faults group o) q) (port_at (map state (ports_of r)) q)
+      → RangOnceEach (txs_in group q (history_of r))
+      (faults_at (faults_of faults (ports_of r) r.root.port) q)
+      (port_at (opened_states G state faults group o) q) (port_at (map state (ports_of r)) q)

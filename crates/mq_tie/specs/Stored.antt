@@ -1,8 +1,8 @@
 -- What the sides of all queues store, and where the entry of each number is found there.
 use Rattle.std.specs.Prelude.{◌≡◌, ◌<◌, ◌≤◌, ℕ, suc, ◌+◌, ◌-◌, List, [], ◌∷◌, map, Option, Some, None, slice_get, slice_index_or}
 use Rattle.mq_drive.specs.declared.port.Port.{Ghosts}
-use Rattle.mq_side.specs.declared.drawn.Drawn.{Drawn}
-use Rattle.mq_side.specs.declared.side.QueueSide.{QueueSide}
+use Rattle.mq_queue_side.specs.declared.drawn.Drawn.{Drawn}
+use Rattle.mq_queue_side.specs.declared.side.QueueSide.{QueueSide}
 use Rattle.mq_tie.specs.declared.ended.EntryPlace.{EntryPlace}
 
 -- of each queue, the oldest first
@@ -25,7 +25,9 @@ entries_at lists (s ∷ ss) = with_found (drawn_at lists s) (entries_at lists ss
 module _ {E : Type 0} (lists : List (List (Drawn E))) where
   -- the numbers of all that is stored are among the `count` that follow the base
   abbrev pub AreWithin : (base count : ℕ) → Type 0
-  AreWithin base count = (s : EntryPlace) (d : Drawn E) → drawn_at lists s ≡ Some d → (base < d.number) × (d.number ≤ base + count)
+  AreWithin base count =
+      (s : EntryPlace) (d : Drawn E) → drawn_at lists s ≡ Some d
+      → (base < d.number) × (d.number ≤ base + count)
 
   -- the entry of the number is stored
   pub record HasStored (n : ℕ) : Type 0 where

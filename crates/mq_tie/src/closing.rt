@@ -12,7 +12,7 @@ use crate::order::{count_stored, order_of};
 use mq_blocks::{OutOfMemory, TxNo};
 use mq_drive::Port;
 use mq_journal::{Groups, JournalMachine};
-use mq_side::QueueSide;
+use mq_queue_side::QueueSide;
 use mq_turns::{Chair, Desk, Machine, Parts};
 use std::alloc::Global;
 

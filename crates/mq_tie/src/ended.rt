@@ -5,7 +5,7 @@ ghost use Rattle.mq_tie.specs.Stored.{entries_at, stored_by};
 use mq_blocks::TxNo;
 use mq_drive::Port;
 use mq_pages::PageCell;
-use mq_side::{QueueSide, Root};
+use mq_queue_side::{QueueSide, Root};
 
 /// Where an entry is stored: the queue, and the place among those that were drawn on it, the oldest first.
 #[derive(Clone, Copy, Debug, PartialEq, Eq)]

@@ -4,9 +4,9 @@ ghost use Rattle.mq_tie.specs.Laws.{DesksEndAsParts, WordsAreMarks};
 ghost use Rattle.mq_tie.specs.Ports.{RunsKeepTheirPorts};
 ghost use Rattle.mq_tie.specs.Rings.{CommitsRingOnce};
 
+use mq_desk_laws::JournalValues;
 use mq_drive::Port;
 use mq_journal::Groups;
-use mq_rules::JournalValues;
 
 /// When no chair holds anything, what is known on a desk, its sides and its root are parts of one lawful
 /// state of the machine, with the words of the marks as its marks.

@@ -6,7 +6,7 @@ ghost use Rattle.mq_tie.specs.Stored.{AreWithin, HasStored, IsNoted, drawn_at, s
 use crate::ended::EntryPlace;
 use mq_blocks::OutOfMemory;
 use mq_drive::Port;
-use mq_side::QueueSide;
+use mq_queue_side::QueueSide;
 use std::alloc::Global;
 
 /// The number of entries that the sides store.

@@ -5,7 +5,7 @@ ghost use Rattle.mq_tie.specs.Runs.{history_of, ports_of};
 use crate::ended::Ended;
 use mq_drive::{Port, Ports};
 use mq_pages::PageCell;
-use mq_side::{Drawn, QueueSide};
+use mq_queue_side::{Drawn, QueueSide};
 
 // Puts the ports of sides back, the last side's first.
 fn unmake_sides<P: Port, E: Drop>(sides: Vec<QueueSide<P, E>>, ports: &mut Vec<P>)

@@ -1,5 +1,5 @@
 -- Steps of the phases of a mount.
-use Rattle.std.proofs.Common.{get_or, ◌≡◌, ◌≢◌, ℕ, ◌+◌, ◌<◌, ◌≤◌, List, [], ◌∷◌, ◌++◌, length, Bool, true, false, refl, sym, ap, subst, ◌∙◌, arith}
+use Rattle.std.proofs.Common.{get_or, ◌≡◌, ◌≢◌, ℕ, ◌+◌, ◌<◌, ◌≤◌, List, [], ◌∷◌, ◌++◌, length, Bool, true, false, refl, sym, ap, subst, ◌∙◌, arith, below_more}
 use Rattle.std.specs.Prelude.{Option, Some, None, slice_index, MatchOption, is_some}
 use Rattle.std.specs.Bool.{MatchBool}
 use Rattle.std.proofs.lemmas.Bool.{true≢false}
@@ -121,3 +121,13 @@ inodes-end g s xs n i e l low = let k = ap length e in let m = length-inodes g s
 
 pub inodes-past : (g : Geometry) (s : Stored) (xs : List Inode) (n : ℕ) → xs ≡ inodes_in g s → length xs ≤ n → inodes_of g ≤ n
 inodes-past g s xs n e l = let k = ap length e in let m = length-inodes g s in omega arith
+
+-- ---- a test of one inode after another
+
+-- it held of the inodes below this one, and holds of this one
+pub each-more : (P : Inode → Type 0) (g : Geometry) (s : Stored) (xs : List Inode) (i : ℕ) (d : Inode) → xs ≡ inodes_in g s → i < length xs → ((k : ℕ) → k < i → P (the_inode g s k)) → P (get_or xs i d) → (k : ℕ) → k < i + 1 → P (the_inode g s k)
+each-more P g s xs i d e l all h = below_more (λ k. P (the_inode g s k)) i all (subst P (inode-seen g s xs i d e l) h)
+
+-- it found a block for which the blocks are refused
+pub each-refuses : (P : Inode → Type 0) (g : Geometry) (s : Stored) (xs : List Inode) (i : ℕ) (d : Inode) (cause : CorruptCause) (b : ℕ) (r : MountRefusal) → ((k : ℕ) → k < inodes_of g → P (the_inode g s k) → IsCorrupt g s cause b) → xs ≡ inodes_in g s → i < length xs → r ≡ Corrupt cause b → P (get_or xs i d) → Refuses g s r
+each-refuses P g s xs i d cause b r found e l is h = refuses-at g s cause b r is (found i (inode-low g s xs i e l) (subst P (inode-seen g s xs i d e l) h))

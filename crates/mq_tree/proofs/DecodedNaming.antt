@@ -1,5 +1,5 @@
 -- Slots of the volume, and the inodes that they name.
-use Rattle.std.proofs.Common.{get_or, ◌≡◌, ◌≢◌, ℕ, ◌+◌, ◌*◌, ◌/◌, ◌%◌, ◌<◌, List, length, Bool, true, false, refl, sym, ap, subst, ◌∙◌, arith, inl, inr, below_more}
+use Rattle.std.proofs.Common.{get_or, ◌≡◌, ◌≢◌, ℕ, ◌+◌, ◌*◌, ◌/◌, ◌%◌, ◌<◌, List, length, Bool, true, false, refl, sym, ap, subst, ◌∙◌, arith, inl, inr}
 use Rattle.std.specs.Prelude.{Some, None, not}
 use Rattle.std.specs.Bool.{MatchBool}
 use Rattle.std.proofs.lemmas.Bool.{cases_eq, cases_lt, eq-eqb, ne_eqb}
@@ -98,12 +98,8 @@ names-all g s xs table e all d k entry there =
     let h = all d p.low p.dir (k / 15) place (k % 15) (omega arith) entry p.is in
     (h.not_root, named-used g s xs entry.inode table e h)
 
-pub named-more : (g : Geometry) (s : Stored) (xs : List Inode) (i : ℕ) (n : Inode) → ((k : ℕ) → k < i → AreNamedIn s xs (the_inode g s k)) → n ≡ the_inode g s i → AreNamedIn s xs n → (k : ℕ) → k < i + 1 → AreNamedIn s xs (the_inode g s k)
-named-more g s xs i n all e h = below_more (λ k. AreNamedIn s xs (the_inode g s k)) i all (subst (λ m. AreNamedIn s xs m) e h)
-
-pub name-found : (g : Geometry) (s : Stored) (xs : List Inode) (i b : ℕ) (n : Inode) → IsTable g s → ArePointers g s → xs ≡ inodes_in g s → n ≡ the_inode g s i → i < inodes_of g → HasBadName s xs n b → IsCorrupt g s Kind b
-name-found g s xs i b n table pointers e same low h =
-    let t : HasBadName s xs (the_inode g s i) b = subst (λ m. HasBadName s xs m b) same h in
+pub name-found : (g : Geometry) (s : Stored) (xs : List Inode) (i b : ℕ) → IsTable g s → ArePointers g s → xs ≡ inodes_in g s → i < inodes_of g → HasBadName s xs (the_inode g s i) b → IsCorrupt g s Kind b
+name-found g s xs i b table pointers e low t =
     let o = t.other in
     let k = 15 * t.place + o.at in
     let small = o.small in
@@ -142,9 +138,3 @@ block-seen s n place b block dir two inside is page = subst (λ p. IsDirBlock p)
 
 pub names-at : (xs : List Inode) (s : Stored) (n : Inode) (place b : ℕ) (block : List ℕ) → b ≡ pointer_to s n place → block ≡ block_at s b → NameAll xs block → NameAll xs (part s n place)
 names-at xs s n place b block is page all = subst (λ p. NameAll xs p) (page ∙ ap (λ (c : ℕ). block_at s c) is) all
-
-pub names-more : (xs : List Inode) (s : Stored) (n : Inode) (place : ℕ) → ((j : ℕ) → j < place → NameAll xs (part s n j)) → NameAll xs (part s n place) → (j : ℕ) → j < place + 1 → NameAll xs (part s n j)
-names-more xs s n place all here = below_more (λ j. NameAll xs (part s n j)) place all here
-
-pub slots-more : (xs : List Inode) (block : List ℕ) (at : ℕ) → ((j : ℕ) → j < at → NamesRight xs block j) → NamesRight xs block at → (j : ℕ) → j < at + 1 → NamesRight xs block j
-slots-more xs block at all here = below_more (λ j. NamesRight xs block j) at all here

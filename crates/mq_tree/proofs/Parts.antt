@@ -1,5 +1,5 @@
 -- Steps of the phases that go inode by inode, or bit by bit.
-use Rattle.std.proofs.Common.{◌≡◌, ◌≢◌, ℕ, ◌+◌, ◌*◌, ◌/◌, ◌%◌, ◌<◌, ◌≤◌, List, length, Bool, true, false, Some, refl, sym, ap, subst, ◌∙◌, arith, inl, inr, below_more}
+use Rattle.std.proofs.Common.{◌≡◌, ◌≢◌, ℕ, ◌+◌, ◌*◌, ◌/◌, ◌%◌, ◌<◌, ◌≤◌, List, length, Bool, true, false, Some, refl, sym, ap, subst, ◌∙◌, arith, inl, inr}
 use Rattle.std.specs.Prelude.{Option, slice_index, if◌then◌else◌, ◌&&◌, IfOk, Result, Ok, Err, is_err, not, nat_eq}
 use Rattle.std.proofs.lemmas.Bool.{and_left, cases_eq, cases_lt, eq-eqb, le-ltb, lt-ltb, ne_eqb}
 use mathlib.Core.Bool.{beq}
@@ -20,7 +20,7 @@ use Rattle.mq_tree.specs.Clean.{AreMarked, ArePointers, IsInZone, IsTable}
 use Rattle.mq_tree.specs.Corrupt.{IsCorrupt, IsPlace, IsUsedFor, behind_slots, in_slot, unmarked_block, unmarked_inode, unused_block, unused_inode}
 use Rattle.mq_tree.specs.Decoded.{Stored, body_of, byte_of, count_of, pointer_to, slot_of, the_inode, volume_in}
 use Rattle.mq_tree.specs.Laid.{zone_block}
-use Rattle.mq_tree.specs.Parts.{AreDirBlocks, HasBadBlock, HasEndAt, IsEnded}
+use Rattle.mq_tree.specs.Parts.{HasBadBlock, HasEndAt, IsEnded}
 use Rattle.mq_tree.specs.Volume.{Use, Part, Pointers, block_in, body, is_taken, is_used, Node}
 use Rattle.mq_tree.specs.declared.corrupt.CorruptCause.{CorruptCause}
 use Rattle.mq_tree.specs.declared.corrupt.CorruptCause.TheVariants.{Layout, Tail, Unmarked, Unreached}
@@ -64,21 +64,13 @@ end-good s n b bytes some is page all k file past inside =
 
 -- ---- what a test of one inode found
 
-pub ended-more : (g : Geometry) (s : Stored) (i : ℕ) (n : Inode) → ((k : ℕ) → k < i → IsEnded s (the_inode g s k)) → n ≡ the_inode g s i → IsEnded s n → (k : ℕ) → k < i + 1 → IsEnded s (the_inode g s k)
-ended-more g s i n all e h = below_more (λ k. IsEnded s (the_inode g s k)) i all (subst (λ m. IsEnded s m) e h)
-
-pub dirs-more : (g : Geometry) (s : Stored) (i : ℕ) (n : Inode) → ((k : ℕ) → k < i → AreDirBlocks s (the_inode g s k)) → n ≡ the_inode g s i → AreDirBlocks s n → (k : ℕ) → k < i + 1 → AreDirBlocks s (the_inode g s k)
-dirs-more g s i n all e h = below_more (λ k. AreDirBlocks s (the_inode g s k)) i all (subst (λ m. AreDirBlocks s m) e h)
-
-pub tail-found : (g : Geometry) (s : Stored) (i b : ℕ) (n : Inode) → ArePointers g s → n ≡ the_inode g s i → i < inodes_of g → HasEndAt s n b → IsCorrupt g s Tail b
-tail-found g s i b n pointers e low h =
-    let t : HasEndAt s (the_inode g s i) b = subst (λ m. HasEndAt s m b) e h in
+pub tail-found : (g : Geometry) (s : Stored) (i b : ℕ) → ArePointers g s → i < inodes_of g → HasEndAt s (the_inode g s i) b → IsCorrupt g s Tail b
+tail-found g s i b pointers low t =
     let l = t.inside in
     record { i = i; k = t.k; low = low; file = t.file; past = t.past; inside = t.inside; place = is-place g s i (t.k / 4096) b pointers low (omega arith) t.is; not_zero = t.not_zero }
 
-pub dir-found : (g : Geometry) (s : Stored) (i b : ℕ) (n : Inode) → ArePointers g s → n ≡ the_inode g s i → i < inodes_of g → HasBadBlock s n b → IsCorrupt g s Layout b
-dir-found g s i b n pointers e low h =
-    let t : HasBadBlock s (the_inode g s i) b = subst (λ m. HasBadBlock s m b) e h in
+pub dir-found : (g : Geometry) (s : Stored) (i b : ℕ) → ArePointers g s → i < inodes_of g → HasBadBlock s (the_inode g s i) b → IsCorrupt g s Layout b
+dir-found g s i b pointers low t =
     let p = is-place g s i t.place b pointers low t.inside t.is in
     elim t.bad [
       | inl x ↦ in_slot i t.place x.0 x.1 low t.dir t.inside p x.2 x.3

@@ -2,6 +2,7 @@
 use Rattle.std.proofs.Common.{◌≡◌, ℕ, List, [], ◌∷◌, refl, lit≤}
 use Rattle.std.specs.Prelude.{Option, Some, None, codes, replicate}
 use Rattle.std.specs.Fmt.{digits}
+use Rattle.mq_blocks.specs.Geometry.{shaped}
 use Rattle.mq_blocks.specs.declared.geometry.Geometry.{Geometry}
 use Rattle.mq_layout.specs.Names.{is_name}
 use Rattle.mq_layout.specs.Slots.{Entry}
@@ -16,19 +17,7 @@ use Rattle.mq_tree.specs.declared.request.Request.{Request}
 use Rattle.mq_tree.specs.declared.request.Request.TheVariants.{Mkdir, Create, Write, Truncate, Unlink, Rmdir, Rename, Read, List as ListOf, Stat}
 
 unfoldable pub small : Geometry
-small = record {
-  queues = 1;
-  area = 1024;
-  meta = 4;
-  zone = 3;
-  queues_low = lit≤ tt;
-  queues_high = lit≤ tt;
-  area_low = lit≤ tt;
-  area_high = lit≤ tt;
-  meta_low = lit≤ tt;
-  zone_low = lit≤ tt;
-  homes_high = lit≤ tt;
-}
+small = shaped 1 1024 4 3 (lit≤ tt, lit≤ tt) (lit≤ tt, lit≤ tt) (lit≤ tt, lit≤ tt, lit≤ tt)
 
 abbrev pub a : List ℕ
 a = 97 ∷ []
@@ -99,7 +88,7 @@ third-left = refl
 -- ---- which blocks are taken
 
 three : Geometry
-three = record { area = 1024; queues_low = lit≤ tt; area_low = lit≤ tt; area_high = lit≤ tt; queues = 3; meta = 6; zone = 2; queues_high = lit≤ tt; meta_low = lit≤ tt; zone_low = lit≤ tt; homes_high = lit≤ tt }
+three = shaped 3 1024 6 2 (lit≤ tt, lit≤ tt) (lit≤ tt, lit≤ tt) (lit≤ tt, lit≤ tt, lit≤ tt)
 
 -- those of the own zone first
 order-own : order three 1 ≡ 8 ∷ 9 ∷ 6 ∷ 7 ∷ 10 ∷ 11 ∷ []

@@ -24,7 +24,8 @@ pub record IsTable (g : Geometry) (s : Stored) : Type 0 where
   pub super : block_at s 0 ≡ super_bytes g
   pub zones : (zone : ℕ) → zone < queues_of g → NoneFrom (block_at s (zone_bitmap zone)) (zone_size g)
   pub marks : NoneFrom (block_at s (inode_bitmap g)) (inodes_of g)
-  pub inodes : (i : ℕ) → i < inodes_of g → ShowsInode (block_at s (inode_block g i)) (inode_place i) (the_inode g s i)
+  pub inodes : (i : ℕ) → i < inodes_of g
+      → ShowsInode (block_at s (inode_block g i)) (inode_place i) (the_inode g s i)
   -- the blocks past that of the last inode
   pub rest : (b k : ℕ) → table_first g + 1024 ≤ b → b < meta_of g → slice_index (block_at s b) k ≡ 0
   pub root : (the_inode g s 0).kind ≡ 2
@@ -54,7 +55,9 @@ pub record IsDirBlock (block : List ℕ) : Type 0 where
 
 -- directories have such blocks
 abbrev pub AreDirs : Geometry → Stored → Type 0
-AreDirs g s = (i place : ℕ) → i < inodes_of g → (the_inode g s i).kind ≡ 2 → place < count_of (the_inode g s i) → IsDirBlock (part s (the_inode g s i) place)
+AreDirs g s =
+    (i place : ℕ) → i < inodes_of g → (the_inode g s i).kind ≡ 2 → place < count_of (the_inode g s i)
+    → IsDirBlock (part s (the_inode g s i) place)
 
 -- slots name used inodes, and not the root
 abbrev pub AreNamed : Volume → Type 0
@@ -66,17 +69,21 @@ AreOnce v = (d k l : ℕ) (e f : Entry) → slot v d k ≡ Some e → slot v d l
 
 -- a path leads to each used inode, and one slot alone names it
 pub record AreReached (v : Volume) : Type 0 where
-  pub once : (d k c l : ℕ) (e f : Entry) → slot v d k ≡ Some e → slot v c l ≡ Some f → e.inode ≡ f.inode → (d ≡ c) × (k ≡ l)
+  pub once : (d k c l : ℕ) (e f : Entry) → slot v d k ≡ Some e → slot v c l ≡ Some f → e.inode ≡ f.inode
+      → (d ≡ c) × (k ≡ l)
   pub reached : (i : ℕ) → is_used (body v i) ≡ true → (way : Way) × (inode_at v way ≡ Some i)
 
 -- just what is used is marked
 pub record AreMarked (g : Geometry) (s : Stored) : Type 0 where
-  pub zones : (zone : ℕ) → zone < queues_of g → ShowsMarks (block_at s (zone_bitmap zone)) (zone_marked g (volume_in g s) zone)
+  pub zones : (zone : ℕ) → zone < queues_of g
+      → ShowsMarks (block_at s (zone_bitmap zone)) (zone_marked g (volume_in g s) zone)
   pub inodes : ShowsMarks (block_at s (inode_bitmap g)) (inode_marked (volume_in g s))
 
 -- the bytes past the end of a file are zeros
 abbrev pub AreEnded : Geometry → Stored → Type 0
-AreEnded g s = (i k : ℕ) → i < inodes_of g → (the_inode g s i).kind ≡ 1 → (the_inode g s i).size ≤ k → k < 4096 * count_of (the_inode g s i) → byte_of s (the_inode g s i) k ≡ 0
+AreEnded g s =
+    (i k : ℕ) → i < inodes_of g → (the_inode g s i).kind ≡ 1 → (the_inode g s i).size ≤ k
+    → k < 4096 * count_of (the_inode g s i) → byte_of s (the_inode g s i) k ≡ 0
 
 pub record IsClean (g : Geometry) (s : Stored) : Type 0 where
   pub table : IsTable g s

@@ -48,29 +48,44 @@ pub record IsUsedFor (g : Geometry) (s : Stored) (u : Use) (b : ℕ) : Type 0 wh
 -- A codec refuses, or a byte or a bit has to be 0 and is not.
 pub data BadLayout (g : Geometry) (s : Stored) (b : ℕ) : Type 0 where
   superblock : (e : LayoutRefusal) → b ≡ 0 → wrong_super g (block_at s b) ≡ Some e → BadLayout g s b
-  zone_bit : (zone k : ℕ) → zone < queues_of g → b ≡ zone_bitmap zone → zone_size g ≤ k → k < 32768 → bit_of (block_at s b) k ≡ 1 → BadLayout g s b
-  inode_bit : (k : ℕ) → b ≡ inode_bitmap g → inodes_of g ≤ k → k < 32768 → bit_of (block_at s b) k ≡ 1 → BadLayout g s b
-  table_inode : (i : ℕ) (e : LayoutRefusal) → i < inodes_of g → b ≡ inode_block g i → wrong_inode (block_at s b) (inode_place i) ≡ Some e → BadLayout g s b
-  table_rest : (k : ℕ) → table_first g + 1024 ≤ b → b < meta_of g → slice_index (block_at s b) k ≢ 0 → BadLayout g s b
-  in_slot : (i place at : ℕ) (e : LayoutRefusal) → i < inodes_of g → (the_inode g s i).kind ≡ 2 → place < count_of (the_inode g s i) → IsPlace g s i place b → at < 15
+  zone_bit : (zone k : ℕ) → zone < queues_of g → b ≡ zone_bitmap zone → zone_size g ≤ k → k < 32768
+      → bit_of (block_at s b) k ≡ 1 → BadLayout g s b
+  inode_bit : (k : ℕ) → b ≡ inode_bitmap g → inodes_of g ≤ k → k < 32768 → bit_of (block_at s b) k ≡ 1
+      → BadLayout g s b
+  table_inode : (i : ℕ) (e : LayoutRefusal) → i < inodes_of g → b ≡ inode_block g i
+      → wrong_inode (block_at s b) (inode_place i) ≡ Some e → BadLayout g s b
+  table_rest : (k : ℕ) → table_first g + 1024 ≤ b → b < meta_of g → slice_index (block_at s b) k ≢ 0
+      → BadLayout g s b
+  in_slot : (i place at : ℕ) (e : LayoutRefusal) → i < inodes_of g → (the_inode g s i).kind ≡ 2
+      → place < count_of (the_inode g s i) → IsPlace g s i place b → at < 15
       → wrong_slot (block_at s b) at ≡ Some e → BadLayout g s b
-  behind_slots : (i place k : ℕ) → i < inodes_of g → (the_inode g s i).kind ≡ 2 → place < count_of (the_inode g s i) → IsPlace g s i place b → 4080 ≤ k → k < 4096
+  behind_slots : (i place k : ℕ) → i < inodes_of g → (the_inode g s i).kind ≡ 2
+      → place < count_of (the_inode g s i) → IsPlace g s i place b → 4080 ≤ k → k < 4096
       → slice_index (block_at s b) k ≢ 0 → BadLayout g s b
 
 -- the block that has the pointer to this place
 pub data BadPointer (g : Geometry) (s : Stored) (b : ℕ) : Type 0 where
-  direct : (i k : ℕ) → i < inodes_of g → b ≡ inode_block g i → k < 12 → k < count_of (the_inode g s i) → (IsInZone g (pointer_to s (the_inode g s i) k) → ⊥) → BadPointer g s b
-  not_direct : (i k : ℕ) → i < inodes_of g → b ≡ inode_block g i → count_of (the_inode g s i) ≤ k → k < 12 → slice_index (the_inode g s i).direct k ≢ 0 → BadPointer g s b
-  indirect : (i : ℕ) → i < inodes_of g → b ≡ inode_block g i → 12 < count_of (the_inode g s i) → (IsInZone g (the_inode g s i).indirect → ⊥) → BadPointer g s b
-  not_indirect : (i : ℕ) → i < inodes_of g → b ≡ inode_block g i → count_of (the_inode g s i) ≤ 12 → (the_inode g s i).indirect ≢ 0 → BadPointer g s b
-  far : (i k : ℕ) → i < inodes_of g → b ≡ (the_inode g s i).indirect → IsInZone g b → 12 ≤ k → k < 1036 → k < count_of (the_inode g s i) → (IsInZone g (pointer_to s (the_inode g s i) k) → ⊥) → BadPointer g s b
-  not_far : (i k : ℕ) → i < inodes_of g → b ≡ (the_inode g s i).indirect → IsInZone g b → 12 < count_of (the_inode g s i) → count_of (the_inode g s i) ≤ k → k < 1036 → pointer_to s (the_inode g s i) k ≢ 0 → BadPointer g s b
+  direct : (i k : ℕ) → i < inodes_of g → b ≡ inode_block g i → k < 12 → k < count_of (the_inode g s i)
+      → (IsInZone g (pointer_to s (the_inode g s i) k) → ⊥) → BadPointer g s b
+  not_direct : (i k : ℕ) → i < inodes_of g → b ≡ inode_block g i → count_of (the_inode g s i) ≤ k
+      → k < 12 → slice_index (the_inode g s i).direct k ≢ 0 → BadPointer g s b
+  indirect : (i : ℕ) → i < inodes_of g → b ≡ inode_block g i → 12 < count_of (the_inode g s i)
+      → (IsInZone g (the_inode g s i).indirect → ⊥) → BadPointer g s b
+  not_indirect : (i : ℕ) → i < inodes_of g → b ≡ inode_block g i → count_of (the_inode g s i) ≤ 12
+      → (the_inode g s i).indirect ≢ 0 → BadPointer g s b
+  far : (i k : ℕ) → i < inodes_of g → b ≡ (the_inode g s i).indirect → IsInZone g b → 12 ≤ k → k < 1036
+      → k < count_of (the_inode g s i) → (IsInZone g (pointer_to s (the_inode g s i) k) → ⊥)
+      → BadPointer g s b
+  not_far : (i k : ℕ) → i < inodes_of g → b ≡ (the_inode g s i).indirect → IsInZone g b
+      → 12 < count_of (the_inode g s i) → count_of (the_inode g s i) ≤ k → k < 1036
+      → pointer_to s (the_inode g s i) k ≢ 0 → BadPointer g s b
 
 pub data BadKind (g : Geometry) (s : Stored) (b : ℕ) : Type 0 where
   not_root : b ≡ inode_block g 0 → (the_inode g s 0).kind ≢ 2 → BadKind g s b
   names_root : (d k : ℕ) (e : Entry) → IsSlotIn g s d k e b → e.inode ≡ 0 → BadKind g s b
   -- free, or not below the number of inodes
-  names_free : (d k : ℕ) (e : Entry) → IsSlotIn g s d k e b → is_used (body (volume_in g s) e.inode) ≡ false → BadKind g s b
+  names_free : (d k : ℕ) (e : Entry) → IsSlotIn g s d k e b
+      → is_used (body (volume_in g s) e.inode) ≡ false → BadKind g s b
 
 pub record IsTwin (g : Geometry) (s : Stored) (b : ℕ) : Type 0 where
   pub d : ℕ
@@ -87,16 +102,24 @@ pub record IsTwin (g : Geometry) (s : Stored) (b : ℕ) : Type 0 where
 pub data IsShared (g : Geometry) (s : Stored) (b : ℕ) : Type 0 where
   shared_block : (u w : Use) → IsUsedFor g s u b → IsUsedFor g s w b → u ≢ w → IsShared g s b
   -- two slots name an inode of this block
-  shared_inode : (d k c l x y : ℕ) (e f : Entry) → IsSlotIn g s d k e x → IsSlotIn g s c l f y → e.inode ≡ f.inode → ((d ≡ c) × (k ≡ l) → ⊥) → e.inode < inodes_of g → b ≡ inode_block g e.inode → IsShared g s b
+  shared_inode : (d k c l x y : ℕ) (e f : Entry) → IsSlotIn g s d k e x → IsSlotIn g s c l f y
+      → e.inode ≡ f.inode → ((d ≡ c) × (k ≡ l) → ⊥) → e.inode < inodes_of g → b ≡ inode_block g e.inode
+      → IsShared g s b
 
 pub data IsUnmarked (g : Geometry) (s : Stored) (b : ℕ) : Type 0 where
-  unmarked_block : (zone k : ℕ) (u : Use) → zone < queues_of g → k < zone_size g → b ≡ zone_bitmap zone → IsUsedFor g s u (zone_block g zone k) → bit_of (block_at s b) k ≡ 0 → IsUnmarked g s b
-  unmarked_inode : (i : ℕ) → i < inodes_of g → b ≡ inode_bitmap g → is_used (body (volume_in g s) i) ≡ true → bit_of (block_at s b) i ≡ 0 → IsUnmarked g s b
+  unmarked_block : (zone k : ℕ) (u : Use) → zone < queues_of g → k < zone_size g → b ≡ zone_bitmap zone
+      → IsUsedFor g s u (zone_block g zone k) → bit_of (block_at s b) k ≡ 0 → IsUnmarked g s b
+  unmarked_inode : (i : ℕ) → i < inodes_of g → b ≡ inode_bitmap g
+      → is_used (body (volume_in g s) i) ≡ true → bit_of (block_at s b) i ≡ 0 → IsUnmarked g s b
 
 pub data IsUnreached (g : Geometry) (s : Stored) (b : ℕ) : Type 0 where
-  unused_block : (zone k : ℕ) → zone < queues_of g → k < zone_size g → b ≡ zone_bitmap zone → is_taken (volume_in g s) (zone_block g zone k) ≡ false → bit_of (block_at s b) k ≡ 1 → IsUnreached g s b
-  unused_inode : (i : ℕ) → i < inodes_of g → b ≡ inode_bitmap g → is_used (body (volume_in g s) i) ≡ false → bit_of (block_at s b) i ≡ 1 → IsUnreached g s b
-  lost_inode : (i : ℕ) → i < inodes_of g → b ≡ inode_block g i → is_used (body (volume_in g s) i) ≡ true → ((way : Way) → inode_at (volume_in g s) way ≢ Some i) → IsUnreached g s b
+  unused_block : (zone k : ℕ) → zone < queues_of g → k < zone_size g → b ≡ zone_bitmap zone
+      → is_taken (volume_in g s) (zone_block g zone k) ≡ false → bit_of (block_at s b) k ≡ 1
+      → IsUnreached g s b
+  unused_inode : (i : ℕ) → i < inodes_of g → b ≡ inode_bitmap g
+      → is_used (body (volume_in g s) i) ≡ false → bit_of (block_at s b) i ≡ 1 → IsUnreached g s b
+  lost_inode : (i : ℕ) → i < inodes_of g → b ≡ inode_block g i → is_used (body (volume_in g s) i) ≡ true
+      → ((way : Way) → inode_at (volume_in g s) way ≢ Some i) → IsUnreached g s b
 
 pub record HasTail (g : Geometry) (s : Stored) (b : ℕ) : Type 0 where
   pub i : ℕ

@@ -29,17 +29,24 @@ count_of n = blocks_for n.size
 
 -- the pointer to the block at this place
 unfoldable pub pointer_to : Stored → Inode → (place : ℕ) → ℕ
-pointer_to s n place = if nat_lt place 12 then slice_index n.direct place else pointer_of (block_at s n.indirect) (place - 12)
+pointer_to s n place =
+    if nat_lt place 12 then slice_index n.direct place
+    else pointer_of (block_at s n.indirect) (place - 12)
 
 -- the block at this place
 abbrev pub part : Stored → Inode → (place : ℕ) → List ℕ
 part s n place = block_at s (pointer_to s n place)
 
 abbrev pub entry_at : List ℕ → (from : ℕ) → Entry
-entry_at block from = record { inode = number_at 4 from block; name = window block (from + 16) (slice_index block (from + 5)) }
+entry_at block from =
+    record {
+      inode = number_at 4 from block;
+      name = window block (from + 16) (slice_index block (from + 5));
+    }
 
 unfoldable pub slot_of : List ℕ → (at : ℕ) → Option Entry
-slot_of block at = if nat_eq (slice_index block (272 * at + 4)) 0 then None else Some (entry_at block (272 * at))
+slot_of block at =
+    if nat_eq (slice_index block (272 * at + 4)) 0 then None else Some (entry_at block (272 * at))
 
 -- the byte at an offset, and the slot of this number
 abbrev pub byte_of : Stored → Inode → ℕ → ℕ

@@ -32,7 +32,9 @@ Has xs name = (i : ℕ) × (find name xs ≡ Some i)
 
 -- no name stands in two of the first slots
 abbrev pub OnceBelow : (ℕ → Option Entry) → (count : ℕ) → Type 0
-OnceBelow at count = (k l : ℕ) (e f : Entry) → k < count → l < count → at k ≡ Some e → at l ≡ Some f → e.name ≡ f.name → k ≡ l
+OnceBelow at count =
+    (k l : ℕ) (e f : Entry) → k < count → l < count → at k ≡ Some e → at l ≡ Some f → e.name ≡ f.name
+    → k ≡ l
 
 -- the name in a slot of this block stands in another slot too
 pub record HasTwin (s : Stored) (n : Inode) (b : ℕ) : Type 0 where

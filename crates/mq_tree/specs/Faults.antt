@@ -48,21 +48,34 @@ IsFileFault v path fault = (old : List ℕ) × (tree v path ≡ Some (AFile old)
 
 -- nothing can be added there
 abbrev pub IsAddFault : Volume → Path → Fault → Type 0
-IsAddFault v path fault = IsLost v path fault ⊎ ((there : Thing) × (tree v path ≡ Some there) × (fault ≡ Exists))
+IsAddFault v path fault =
+    IsLost v path fault ⊎ ((there : Thing) × (tree v path ≡ Some there) × (fault ≡ Exists))
 
 -- no file there can have this size
 abbrev pub IsSizeFault : Volume → Path → (size : ℕ) → Fault → Type 0
-IsSizeFault v path size fault = IsUnfound v path fault ⊎ (IsDirFault v path fault ⊎ ((old : List ℕ) × (tree v path ≡ Some (AFile old)) × (file_limit < size) × (fault ≡ TooBig)))
+IsSizeFault v path size fault =
+    IsUnfound v path fault
+    ⊎ (IsDirFault v path fault
+    ⊎ ((old : List ℕ) × (tree v path ≡ Some (AFile old)) × (file_limit < size) × (fault ≡ TooBig)))
 
 abbrev pub IsRmdirFault : Volume → Path → Fault → Type 0
-IsRmdirFault v path fault = ((path ≡ []) × (fault ≡ BadName)) ⊎ (IsUnfound v path fault ⊎ (IsFileFault v path fault ⊎ ((path ≢ []) × (tree v path ≡ Some ADir) × (IsBare v path → ⊥) × (fault ≡ NotEmpty))))
+IsRmdirFault v path fault =
+    ((path ≡ []) × (fault ≡ BadName))
+    ⊎ (IsUnfound v path fault
+    ⊎ (IsFileFault v path fault
+    ⊎ ((path ≢ []) × (tree v path ≡ Some ADir) × (IsBare v path → ⊥) × (fault ≡ NotEmpty))))
 
 -- what stands at `from` cannot go to `to`
 abbrev pub IsMoveFault : Volume → (from to : Path) → Fault → Type 0
-IsMoveFault v from to fault = ((is_below from to ≡ true) × (fault ≡ Subtree)) ⊎ ((is_below from to ≡ false) × IsAddFault v to fault)
+IsMoveFault v from to fault =
+    ((is_below from to ≡ true) × (fault ≡ Subtree))
+    ⊎ ((is_below from to ≡ false) × IsAddFault v to fault)
 
 abbrev pub IsRenameFault : Volume → (from to : Path) → Fault → Type 0
-IsRenameFault v from to fault = ((from ≡ []) × (fault ≡ Subtree)) ⊎ (IsUnfound v from fault ⊎ ((there : Thing) × (from ≢ []) × (tree v from ≡ Some there) × IsMoveFault v from to fault))
+IsRenameFault v from to fault =
+    ((from ≡ []) × (fault ≡ Subtree))
+    ⊎ (IsUnfound v from fault
+    ⊎ ((there : Thing) × (from ≢ []) × (tree v from ≡ Some there) × IsMoveFault v from to fault))
 
 -- a request with good names is refused by what stands at its paths
 abbrev pub IsFault : Volume → Request → Fault → Type 0
@@ -85,11 +98,15 @@ IsFullDir g q v path = (count : ℕ) × ((step g q v (Stat path)).reply ≡ Coun
 
 -- the request needs more new blocks than are free
 abbrev pub IsSpaceFault : Geometry → (queue : ℕ) → Volume → Request → Fault → Type 0
-IsSpaceFault g q v r fault = (blocks : ℕ) × (next : Volume) × (act g q v r ≡ Makes blocks next) × (free_blocks g v < blocks) × (fault ≡ NoSpace)
+IsSpaceFault g q v r fault =
+    (blocks : ℕ) × (next : Volume) × (act g q v r ≡ Makes blocks next) × (free_blocks g v < blocks)
+    × (fault ≡ NoSpace)
 
 -- the directory has no room for the last name, or there is no inode for what is new
 abbrev pub IsAddRoomFault : Geometry → (queue : ℕ) → Volume → (parent : Path) → Fault → Type 0
-IsAddRoomFault g q v parent fault = (IsFullDir g q v parent × (fault ≡ TooBig)) ⊎ ((IsFullDir g q v parent → ⊥) × (first_free 0 v ≡ None) × (fault ≡ NoInodes))
+IsAddRoomFault g q v parent fault =
+    (IsFullDir g q v parent × (fault ≡ TooBig))
+    ⊎ ((IsFullDir g q v parent → ⊥) × (first_free 0 v ≡ None) × (fault ≡ NoInodes))
 
 abbrev pub IsAddFull : Geometry → (queue : ℕ) → Volume → Path → Fault → Type 0
 IsAddFull g q v path fault = (m : IsMissing v path) × IsAddRoomFault g q v m.parent fault

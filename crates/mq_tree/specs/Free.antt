@@ -40,15 +40,23 @@ needs have want = (want - have) + (if nat_le have 12 && nat_lt 12 want then 1 el
 
 abbrev pub with_block : Volume → ℕ → Option ℕ → Volume
 with_block v i None = v
-with_block v i (Some b) = slice_set v i (record { body = (node v i).body; blocks = (node v i).blocks ++ b ∷ []; indirect = (node v i).indirect })
+with_block v i (Some b) =
+    slice_set v i
+    (record {
+      body = (node v i).body;
+      blocks = (node v i).blocks ++ b ∷ [];
+      indirect = (node v i).indirect;
+    })
 
 abbrev pub with_pointers : Volume → ℕ → Option ℕ → Volume
 with_pointers v i None = v
-with_pointers v i (Some b) = slice_set v i (record { body = (node v i).body; blocks = (node v i).blocks; indirect = Some b })
+with_pointers v i (Some b) =
+    slice_set v i (record { body = (node v i).body; blocks = (node v i).blocks; indirect = Some b })
 
 -- right before the thirteenth block, a block of pointers is taken
 abbrev pub pointed : Geometry → (queue : ℕ) → Volume → ℕ → Volume
-pointed g q v i = if nat_eq (length (node v i).blocks) 12 then with_pointers v i (first_of v (order g q)) else v
+pointed g q v i =
+    if nat_eq (length (node v i).blocks) 12 then with_pointers v i (first_of v (order g q)) else v
 
 abbrev pub one_more : Geometry → (queue : ℕ) → Volume → ℕ → Volume
 one_more g q v i = with_block v i (first_of v (order g q))

@@ -93,7 +93,8 @@ AreRising (name ∷ names) = IsBefore name names × AreRising names
 -- just these names stand in the directory at the path
 pub record AreNamesAt (v : Volume) (path : Path) (names : List (List ℕ)) : Type 0 where
   pub rising : AreRising names
-  pub found : (name : List ℕ) → Contains names name → (there : Thing) × (tree v (path ++ name ∷ []) ≡ Some there)
+  pub found : (name : List ℕ) → Contains names name
+      → (there : Thing) × (tree v (path ++ name ∷ []) ≡ Some there)
   pub all : (name : List ℕ) (there : Thing) → tree v (path ++ name ∷ []) ≡ Some there → Contains names name
 
 -- the names in a directory are those that `List` answers, and `Stat` says how many there are

@@ -106,8 +106,11 @@ ShowsPointers blocks page = (k : ℕ) → k < 1024 → pointer_of page k ≡ sli
 -- The bytes of a file, with zeros past its end; or 15 slots, and zeros behind them.
 abbrev pub ShowsPart : Body → (place : ℕ) → List ℕ → Type 0
 ShowsPart Free place page = ⊥
-ShowsPart (File bytes) place page = (k : ℕ) → k < 4096 → slice_index page k ≡ slice_index bytes (4096 * place + k)
-ShowsPart (Dir slots) place page = ((k : ℕ) → k < 15 → ShowsSlot page k (slice_index_or slots (15 * place + k) None)) × ShowsBytes page 4080 (zero_bytes 16)
+ShowsPart (File bytes) place page =
+    (k : ℕ) → k < 4096 → slice_index page k ≡ slice_index bytes (4096 * place + k)
+ShowsPart (Dir slots) place page =
+    ((k : ℕ) → k < 15 → ShowsSlot page k (slice_index_or slots (15 * place + k) None))
+    × ShowsBytes page 4080 (zero_bytes 16)
 
 abbrev pub ShowsUse : Volume → Use → List ℕ → Type 0
 ShowsUse v (Part i place) page = ShowsPart (body v i) place page
@@ -158,7 +161,9 @@ pub record IsTreeOf (g : Geometry) (map : Map) (t : Things) : Type 0 where
 
 -- the bit of a block in the bitmap of its zone is set
 abbrev pub is_marked : Geometry → List (Option (List ℕ)) → ℕ → Bool
-is_marked g stored b = nat_eq (bit_of (block_at stored (zone_bitmap ((b - meta_of g) / zone_size g))) ((b - meta_of g) % zone_size g)) 1
+is_marked g stored b =
+    nat_eq (bit_of (block_at stored (zone_bitmap ((b - meta_of g) / zone_size g)))
+    ((b - meta_of g) % zone_size g)) 1
 
 -- the map of stored home blocks: the metadata region, and the blocks of the zones whose bit is set
 unfoldable pub map_of : Geometry → List (Option (List ℕ)) → Map

@@ -11,7 +11,8 @@ use Rattle.mq_tree.specs.declared.listing.Step.{Step}
 -- the entries of a directory, in rising order of names
 abbrev pub insert_entry : Entry → List Entry → List Entry
 insert_entry e [] = e ∷ []
-insert_entry e (f ∷ fs) = if is_lt (slice_cmp nat_cmp e.name f.name) then e ∷ f ∷ fs else f ∷ insert_entry e fs
+insert_entry e (f ∷ fs) =
+    if is_lt (slice_cmp nat_cmp e.name f.name) then e ∷ f ∷ fs else f ∷ insert_entry e fs
 
 abbrev pub entries_in : List (Option Entry) → List Entry
 entries_in [] = []
@@ -42,7 +43,9 @@ line_of path b = head_of b ++ path ++ codes "\n"
 unfoldable pub lines : (count : ℕ) → Volume → List Item → List ℕ
 lines zero v todo = []
 lines (suc count) v [] = []
-lines (suc count) v (x ∷ todo) = line_of (path_of x) (body v x.entry.inode) ++ lines count v (items_of (path_of x) (entries_in (slots_of (body v x.entry.inode))) ++ todo)
+lines (suc count) v (x ∷ todo) =
+    line_of (path_of x) (body v x.entry.inode)
+    ++ lines count v (items_of (path_of x) (entries_in (slots_of (body v x.entry.inode))) ++ todo)
 
 -- the used slots of a body, and of all bodies
 abbrev pub name_count : Body → ℕ
@@ -54,13 +57,19 @@ slot_count (n ∷ v) = name_count n.body + slot_count v
 
 -- The root, and what is below it. A tree has no more paths below the root than used slots.
 abbrev pub list_text : Volume → List ℕ
-list_text v = line_of (codes "/") (body v 0) ++ lines (slot_count v) v (items_of [] (entries_in (slots_of (body v 0))))
+list_text v =
+    line_of (codes "/") (body v 0)
+    ++ lines (slot_count v) v (items_of [] (entries_in (slots_of (body v 0))))
 
 -- ---- items that wait in a stack, whose last one is next
 
 -- the path above an item stands in the text so far
 abbrev pub item_in : List ℕ → Step → Item
-item_in text s = record { above = slice_range text s.from s.to; entry = record { inode = s.link.inode; name = s.link.name.now } }
+item_in text s =
+    record {
+      above = slice_range text s.from s.to;
+      entry = record { inode = s.link.inode; name = s.link.name.now };
+    }
 
 abbrev pub todo_in : List ℕ → List Step → List Item
 todo_in text steps = reverse (map (item_in text) steps)

@@ -21,7 +21,8 @@ path_text (name ∷ names) = names_text (name ∷ names)
 abbrev pub thing_line : Path → Option Thing → List ℕ
 thing_line path None = []
 thing_line path (Some ADir) = codes "d " ++ path_text path ++ codes "\n"
-thing_line path (Some (AFile bytes)) = (codes "f " ++ decimal (length bytes) ++ codes " ") ++ path_text path ++ codes "\n"
+thing_line path (Some (AFile bytes)) =
+    (codes "f " ++ decimal (length bytes) ++ codes " ") ++ path_text path ++ codes "\n"
 
 abbrev pub lines_at : Things → List Path → List ℕ
 lines_at t [] = []

@@ -90,7 +90,8 @@ abbrev pub before : Geometry → (queue zone : ℕ) → List ℕ
 before g q z =
     if nat_eq z q then []
     else (if nat_lt z q then zone_blocks g q ++ range_with_len (meta_of g) (z * zone_size g)
-    else zone_blocks g q ++ range_with_len (meta_of g) (q * zone_size g) ++ range_with_len (zone_block g (suc q) 0) ((z - suc q) * zone_size g))
+    else zone_blocks g q ++ range_with_len (meta_of g) (q * zone_size g)
+    ++ range_with_len (zone_block g (suc q) 0) ((z - suc q) * zone_size g))
 
 -- how many new blocks it needs
 abbrev pub needed : Verdict → ℕ
@@ -113,24 +114,31 @@ pub data LooksAt (g : Geometry) (q : ℕ) (v : Volume) (r : Request) (b : ℕ) :
   -- the block of an inode to which its names lead
   inode : (i : ℕ) → LeadsIn v (paths_of r) i → b ≡ inode_block g i → LooksAt g q v r b
   -- the blocks of a directory to which they lead, and its block of pointers
-  directory : (i : ℕ) (slots : List (Option Entry)) → LeadsIn v (paths_of r) i → body v i ≡ Dir slots → has_block (node v i) b ≡ true → LooksAt g q v r b
+  directory : (i : ℕ) (slots : List (Option Entry)) → LeadsIn v (paths_of r) i → body v i ≡ Dir slots
+      → has_block (node v i) b ≡ true → LooksAt g q v r b
   -- a file's block of pointers
-  pointers : (i : ℕ) (bytes : List ℕ) → WorksOn v r i bytes → is_refused (step g q v r).reply ≡ false → (node v i).indirect ≡ Some b → LooksAt g q v r b
+  pointers : (i : ℕ) (bytes : List ℕ) → WorksOn v r i bytes → is_refused (step g q v r).reply ≡ false
+      → (node v i).indirect ≡ Some b → LooksAt g q v r b
   -- each block of a file with a byte that is touched
-  bytes : (i place byte : ℕ) (bytes : List ℕ) → WorksOn v r i bytes → is_refused (step g q v r).reply ≡ false → slice_get (node v i).blocks place ≡ Some b
-      → byte / 4096 ≡ place → (touched r (length bytes)).0 ≤ byte → byte < (touched r (length bytes)).1 → LooksAt g q v r b
+  bytes : (i place byte : ℕ) (bytes : List ℕ) → WorksOn v r i bytes
+      → is_refused (step g q v r).reply ≡ false → slice_get (node v i).blocks place ≡ Some b
+      → byte / 4096 ≡ place → (touched r (length bytes)).0 ≤ byte → byte < (touched r (length bytes)).1
+      → LooksAt g q v r b
   -- where it takes or frees an inode, that inode's block and the bitmap of inodes
   taken_inode : (i : ℕ) → TakesInode g q v r i → b ≡ inode_block g i → LooksAt g q v r b
   marks : (i : ℕ) → TakesInode g q v r i → b ≡ inode_bitmap g → LooksAt g q v r b
   -- the bitmap of inodes, even if no inode is free or there is no space for a new name
   no_inodes : (step g q v r).reply ≡ Refused NoInodes → b ≡ inode_bitmap g → LooksAt g q v r b
-  no_space : is_making r ≡ true → (step g q v r).reply ≡ Refused NoSpace → b ≡ inode_bitmap g → LooksAt g q v r b
+  no_space : is_making r ≡ true → (step g q v r).reply ≡ Refused NoSpace → b ≡ inode_bitmap g
+      → LooksAt g q v r b
   -- the bitmap of each zone of which it frees a block
-  freed : (x : ℕ) → is_taken v x ≡ true → is_taken (step g q v r).next x ≡ false → b ≡ zone_bitmap ((x - meta_of g) / zone_size g) → LooksAt g q v r b
+  freed : (x : ℕ) → is_taken v x ≡ true → is_taken (step g q v r).next x ≡ false
+      → b ≡ zone_bitmap ((x - meta_of g) / zone_size g) → LooksAt g q v r b
   -- each block that it takes
   taken : is_taken v b ≡ false → is_taken (step g q v r).next b ≡ true → LooksAt g q v r b
   -- the bitmap of each zone before which the need is not met
-  searched : (zone : ℕ) → zone < queues_of g → count_free v (before g q zone) < needed (verdict g q v r) → b ≡ zone_bitmap zone → LooksAt g q v r b
+  searched : (zone : ℕ) → zone < queues_of g → count_free v (before g q zone) < needed (verdict g q v r)
+      → b ≡ zone_bitmap zone → LooksAt g q v r b
 
 -- A request with a name that is not good looks at nothing.
 pub record Looks (g : Geometry) (q : ℕ) (v : Volume) (r : Request) (b : ℕ) : Type 0 where

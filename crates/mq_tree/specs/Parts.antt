@@ -23,7 +23,9 @@ pub record HasEndAt (s : Stored) (n : Inode) (b : ℕ) : Type 0 where
 
 -- a slot, or a byte behind the slots, is not in its form
 abbrev pub IsBadBlock : List ℕ → Type 0
-IsBadBlock block = ((at : ℕ) × (e : LayoutRefusal) × (at < 15) × (wrong_slot block at ≡ Some e)) ⊎ ((k : ℕ) × (4080 ≤ k) × (k < 4096) × (slice_index block k ≢ 0))
+IsBadBlock block =
+    ((at : ℕ) × (e : LayoutRefusal) × (at < 15) × (wrong_slot block at ≡ Some e))
+    ⊎ ((k : ℕ) × (4080 ≤ k) × (k < 4096) × (slice_index block k ≢ 0))
 
 abbrev pub AreDirBlocks : Stored → Inode → Type 0
 AreDirBlocks s n = n.kind ≡ 2 → (place : ℕ) → place < count_of n → IsDirBlock (part s n place)

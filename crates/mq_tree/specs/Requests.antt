@@ -84,7 +84,8 @@ target v (name ∷ way) = target_in v name (walk v way)
 -- ---- changes of one inode
 
 abbrev pub with_body : Volume → ℕ → Body → Volume
-with_body v i b = slice_set v i (record { body = b; blocks = (node v i).blocks; indirect = (node v i).indirect })
+with_body v i b =
+    slice_set v i (record { body = b; blocks = (node v i).blocks; indirect = (node v i).indirect })
 
 abbrev pub freed : Volume → ℕ → Volume
 freed v i = slice_set v i free_node
@@ -121,7 +122,8 @@ link_needs n = entry_needs (length n.blocks) (unused 0 (slots_of n.body))
 
 abbrev pub linked_at : Geometry → (queue : ℕ) → Volume → ℕ → Entry → Option ℕ → Volume
 linked_at g q v d e (Some k) = with_body v d (Dir (slice_set (slots_of (body v d)) k (Some e)))
-linked_at g q v d e None = with_body (grown g q v d 1) d (Dir (slots_of (body v d) ++ (Some e ∷ replicate 14 None)))
+linked_at g q v d e None =
+    with_body (grown g q v d 1) d (Dir (slots_of (body v d) ++ (Some e ∷ replicate 14 None)))
 
 -- the directory with an entry more: in its first unused slot, or in the first of a new block
 abbrev pub linked : Geometry → (queue : ℕ) → Volume → ℕ → Entry → Volume
@@ -142,7 +144,12 @@ abbrev pub resized : Geometry → (queue : ℕ) → Volume → ℕ → List ℕ 
 resized g q v i bytes =
     let count = blocks_for (length bytes) in
     let grown_node = node (grown g q v i (count - length (node v i).blocks)) i in
-    slice_set (grown g q v i (count - length (node v i).blocks)) i (record { body = File bytes; blocks = take count grown_node.blocks; indirect = if nat_lt 12 count then grown_node.indirect else None })
+    slice_set (grown g q v i (count - length (node v i).blocks)) i
+    (record {
+      body = File bytes;
+      blocks = take count grown_node.blocks;
+      indirect = if nat_lt 12 count then grown_node.indirect else None;
+    })
 
 -- ---- what a request comes to
 
@@ -156,19 +163,27 @@ abbrev pub refused : Fault → Verdict
 refused fault = Says (Refused fault)
 
 -- a new file or directory, without blocks
-abbrev pub make_free : Geometry → (queue : ℕ) → Volume → Body → (d : ℕ) → (name : List ℕ) → Option ℕ → Verdict
+abbrev pub make_free : Geometry → (queue : ℕ) → Volume → Body → (d : ℕ) → (name : List ℕ) → Option ℕ
+    → Verdict
 make_free g q v new d name None = refused NoInodes
-make_free g q v new d name (Some i) = Makes (link_needs (node v d)) (linked g q (slice_set v i (record { body = new; blocks = []; indirect = None })) d (record { inode = i; name = name }))
+make_free g q v new d name (Some i) =
+    Makes (link_needs (node v d))
+    (linked g q (slice_set v i (record { body = new; blocks = []; indirect = None })) d
+    (record { inode = i; name = name }))
 
 abbrev pub make : Geometry → (queue : ℕ) → Volume → Body → RequestTarget → Verdict
 make g q v new Root = refused Exists
 make g q v new (Lost fault) = refused fault
 make g q v new (In d name (Some i)) = refused Exists
-make g q v new (In d name None) = if nat_le names_limit (count_names (slots_of (body v d))) then refused TooBig else make_free g q v new d name (first_free 0 v)
+make g q v new (In d name None) =
+    if nat_le names_limit (count_names (slots_of (body v d))) then refused TooBig
+    else make_free g q v new d name (first_free 0 v)
 
 -- a file with other bytes
 abbrev pub set_bytes : Geometry → (queue : ℕ) → Volume → ℕ → (size : ℕ) → List ℕ → Verdict
-set_bytes g q v i size bytes = if nat_lt file_limit size then refused TooBig else Makes (needs (length (node v i).blocks) (blocks_for (length bytes))) (resized g q v i bytes)
+set_bytes g q v i size bytes =
+    if nat_lt file_limit size then refused TooBig
+    else Makes (needs (length (node v i).blocks) (blocks_for (length bytes))) (resized g q v i bytes)
 
 abbrev pub write_in : Geometry → (queue : ℕ) → Volume → ℕ → (at : ℕ) → List ℕ → Body → Verdict
 write_in g q v i at new Free = refused NotFound
@@ -206,7 +221,8 @@ unlink v (In d name (Some i)) = unlink_in v d name i (body v i)
 abbrev pub rmdir_in : Volume → (d : ℕ) → (name : List ℕ) → ℕ → Body → Verdict
 rmdir_in v d name i Free = refused NotFound
 rmdir_in v d name i (File bytes) = refused NotDir
-rmdir_in v d name i (Dir slots) = if nat_eq (count_names slots) 0 then Makes 0 (freed (unlinked v d name) i) else refused NotEmpty
+rmdir_in v d name i (Dir slots) =
+    if nat_eq (count_names slots) 0 then Makes 0 (freed (unlinked v d name) i) else refused NotEmpty
 
 abbrev pub rmdir : Volume → RequestTarget → Verdict
 rmdir v Root = refused BadName
@@ -223,7 +239,9 @@ is_below (name ∷ path) (other ∷ below) = bytes_eq name other && is_below pat
 
 -- into a directory of the volume from which the old name is gone
 abbrev pub move_in : Geometry → (queue : ℕ) → (without : Volume) → ℕ → (d : ℕ) → (name : List ℕ) → Verdict
-move_in g q w i d name = if nat_le names_limit (count_names (slots_of (body w d))) then refused TooBig else Makes (link_needs (node w d)) (linked g q w d (record { inode = i; name = name }))
+move_in g q w i d name =
+    if nat_le names_limit (count_names (slots_of (body w d))) then refused TooBig
+    else Makes (link_needs (node w d)) (linked g q w d (record { inode = i; name = name }))
 
 abbrev pub move : Geometry → (queue : ℕ) → (without : Volume) → ℕ → RequestTarget → Verdict
 move g q w i Root = refused Exists
@@ -235,7 +253,8 @@ abbrev pub rename : Geometry → (queue : ℕ) → Volume → (from to : Path) �
 rename g q v from to Root = refused Subtree
 rename g q v from to (Lost fault) = refused fault
 rename g q v from to (In d name None) = refused NotFound
-rename g q v from to (In d name (Some i)) = if is_below from to then refused Subtree else move g q (unlinked v d name) i (target v (way to))
+rename g q v from to (In d name (Some i)) =
+    if is_below from to then refused Subtree else move g q (unlinked v d name) i (target v (way to))
 
 -- ---- reading
 
@@ -247,7 +266,9 @@ read_in at count (Dir slots) = Refused IsDir
 -- names in rising order of bytes
 abbrev pub insert_name : List ℕ → List (List ℕ) → List (List ℕ)
 insert_name name [] = name ∷ []
-insert_name name (other ∷ names) = if is_lt (slice_cmp nat_cmp name other) then name ∷ other ∷ names else other ∷ insert_name name names
+insert_name name (other ∷ names) =
+    if is_lt (slice_cmp nat_cmp name other) then name ∷ other ∷ names
+    else other ∷ insert_name name names
 
 abbrev pub names_in : List (Option Entry) → List (List ℕ)
 names_in [] = []
@@ -297,7 +318,9 @@ pub record RequestOutcome : Type 0 where
 -- More blocks than are free are refused last.
 abbrev pub carried_out : Geometry → Volume → Verdict → RequestOutcome
 carried_out g v (Says reply) = record { reply = reply; next = v }
-carried_out g v (Makes blocks next) = if nat_lt (free_blocks g v) blocks then record { reply = Refused NoSpace; next = v } else record { reply = Done; next = next }
+carried_out g v (Makes blocks next) =
+    if nat_lt (free_blocks g v) blocks then record { reply = Refused NoSpace; next = v }
+    else record { reply = Done; next = next }
 
 -- a request of a session on this queue
 unfoldable pub step : Geometry → (queue : ℕ) → Volume → Request → RequestOutcome

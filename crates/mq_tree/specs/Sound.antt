@@ -21,7 +21,8 @@ AreEntries slots = (k : ℕ) (e : Entry) → slice_index_or slots k None ≡ Som
 -- bytes, which is 1,036 blocks. A directory has 15 slots in each block.
 abbrev pub IsBody : Body → ℕ → Type 0
 IsBody Free count = count ≡ 0
-IsBody (File bytes) count = (length bytes ≤ file_limit) × (count ≡ blocks_for (length bytes)) × AreBytes bytes
+IsBody (File bytes) count =
+    (length bytes ≤ file_limit) × (count ≡ blocks_for (length bytes)) × AreBytes bytes
 IsBody (Dir slots) count = (count ≤ 1036) × (length slots ≡ 15 * count) × AreEntries slots
 
 -- There is a block of pointers exactly where there are more than twelve blocks.
@@ -38,9 +39,12 @@ pub record IsSound (g : Geometry) (v : Volume) : Type 0 where
   pub zones : (u : Use) (b : ℕ) → block_in v u ≡ Some b → (meta_of g ≤ b) × (b < homes_of g)
   pub apart : (u w : Use) (b : ℕ) → block_in v u ≡ Some b → block_in v w ≡ Some b → u ≡ w
   -- a slot names a used inode, which is not the root, and no other slot names it
-  pub named : (d k : ℕ) (e : Entry) → slot v d k ≡ Some e → (e.inode ≢ 0) × (is_used (body v e.inode) ≡ true)
-  pub once : (d k c l : ℕ) (e f : Entry) → slot v d k ≡ Some e → slot v c l ≡ Some f → e.inode ≡ f.inode → (d ≡ c) × (k ≡ l)
+  pub named : (d k : ℕ) (e : Entry) → slot v d k ≡ Some e
+      → (e.inode ≢ 0) × (is_used (body v e.inode) ≡ true)
+  pub once : (d k c l : ℕ) (e f : Entry) → slot v d k ≡ Some e → slot v c l ≡ Some f → e.inode ≡ f.inode
+      → (d ≡ c) × (k ≡ l)
   -- no name stands twice in a directory
-  pub names : (d k l : ℕ) (e f : Entry) → slot v d k ≡ Some e → slot v d l ≡ Some f → e.name ≡ f.name → k ≡ l
+  pub names : (d k l : ℕ) (e f : Entry) → slot v d k ≡ Some e → slot v d l ≡ Some f → e.name ≡ f.name
+      → k ≡ l
   -- a path leads to each used inode
   pub reached : (i : ℕ) → is_used (body v i) ≡ true → (way : Way) × (inode_at v way ≡ Some i)

@@ -49,4 +49,5 @@ read_answer at count (Err fault) = refused fault
 
 -- each request to read this path answers so
 abbrev pub ReadsAs : Volume → Path → Result (List ℕ) Fault → Type 0
-ReadsAs v path r = (g : Geometry) (q at count : ℕ) → verdict g q v (Read path at count) ≡ read_answer at count r
+ReadsAs v path r =
+    (g : Geometry) (q at count : ℕ) → verdict g q v (Read path at count) ≡ read_answer at count r

@@ -27,7 +27,12 @@ free_node = record { body = Free; blocks = []; indirect = None }
 -- A file with these bytes and the first `count` of its blocks. Its block of pointers stays only where
 -- `count` is over 12.
 abbrev pub cut_node : Node → (count : ℕ) → List ℕ → Node
-cut_node n count bytes = record { body = File bytes; blocks = take count n.blocks; indirect = if nat_lt 12 count then n.indirect else None }
+cut_node n count bytes =
+    record {
+      body = File bytes;
+      blocks = take count n.blocks;
+      indirect = if nat_lt 12 count then n.indirect else None;
+    }
 
 abbrev pub node : Volume → ℕ → Node
 node v i = slice_index_or v i free_node
@@ -100,7 +105,8 @@ tree v path = option_and_then (λ i. thing (body v i)) (inode_at v (way path))
 abbrev pub slot_number : ℕ → List ℕ → List (Option Entry) → Option ℕ
 slot_number k name [] = None
 slot_number k name (None ∷ slots) = slot_number (k + 1) name slots
-slot_number k name (Some e ∷ slots) = if bytes_eq e.name name then Some k else slot_number (k + 1) name slots
+slot_number k name (Some e ∷ slots) =
+    if bytes_eq e.name name then Some k else slot_number (k + 1) name slots
 
 -- the slot in which the last name of a way stands; the root has none
 abbrev pub slot_at : Volume → Way → Option ℕ
@@ -118,7 +124,13 @@ abbrev pub Layout : Type 0
 Layout = Path → Option Place
 
 abbrev pub place_at : Volume → Way → ℕ → Place
-place_at v way i = record { inode = i; blocks = (node v i).blocks; indirect = (node v i).indirect; slot = slot_at v way }
+place_at v way i =
+    record {
+      inode = i;
+      blocks = (node v i).blocks;
+      indirect = (node v i).indirect;
+      slot = slot_at v way;
+    }
 
 -- where a volume has each path
 abbrev pub layout : Volume → Layout

@@ -16,7 +16,8 @@ seen_count seen = sum_by weight seen
 
 -- the slots of the first inodes of the order, and the first slots of the next
 abbrev pub IsLooked : List ℕ → (done part : ℕ) → (d k : ℕ) → Type 0
-IsLooked order done part d k = ((j : ℕ) × (j < done) × (slice_index order j ≡ d)) ⊎ ((slice_index order done ≡ d) × (k < part))
+IsLooked order done part d k =
+    ((j : ℕ) × (j < done) × (slice_index order j ≡ d)) ⊎ ((slice_index order done ≡ d) × (k < part))
 
 -- The walk so far. The order has just what was seen, each once.
 pub record IsOrder (count : ℕ) (seen : List Bool) (order : List ℕ) : Type 0 where
@@ -25,7 +26,8 @@ pub record IsOrder (count : ℕ) (seen : List Bool) (order : List ℕ) : Type 0 
   pub below : (j : ℕ) → j < length order → slice_index order j < count
   pub marked : (j : ℕ) → j < length order → is_seen seen (slice_index order j) ≡ true
   pub listed : (i : ℕ) → is_seen seen i ≡ true → (j : ℕ) × (j < length order) × (slice_index order j ≡ i)
-  pub apart : (j l : ℕ) → j < length order → l < length order → slice_index order j ≡ slice_index order l → j ≡ l
+  pub apart : (j l : ℕ) → j < length order → l < length order
+      → slice_index order j ≡ slice_index order l → j ≡ l
 
 -- Paths lead to what was seen. What the slots that were looked at name was seen, and each such inode but
 -- the root stands in one of them alone.
@@ -33,11 +35,14 @@ pub record IsWalk (v : Volume) (seen : List Bool) (looked : ℕ → ℕ → Type
   pub reached : (i : ℕ) → is_seen seen i ≡ true → (way : Way) × (inode_at v way ≡ Some i)
   pub root : is_seen seen 0 ≡ true
   pub closed : (d k : ℕ) (e : Entry) → looked d k → slot v d k ≡ Some e → is_seen seen e.inode ≡ true
-  pub named : (i : ℕ) → is_seen seen i ≡ true → i ≢ 0 → (d : ℕ) × (k : ℕ) × (e : Entry) × looked d k × (slot v d k ≡ Some e) × (e.inode ≡ i)
-  pub once : (d k c l : ℕ) (e f : Entry) → looked d k → looked c l → slot v d k ≡ Some e → slot v c l ≡ Some f → e.inode ≡ f.inode → (d ≡ c) × (k ≡ l)
+  pub named : (i : ℕ) → is_seen seen i ≡ true → i ≢ 0
+      → (d : ℕ) × (k : ℕ) × (e : Entry) × looked d k × (slot v d k ≡ Some e) × (e.inode ≡ i)
+  pub once : (d k c l : ℕ) (e f : Entry) → looked d k → looked c l → slot v d k ≡ Some e
+      → slot v c l ≡ Some f → e.inode ≡ f.inode → (d ≡ c) × (k ≡ l)
 
 -- so far as all slots of the first inodes of the order, and the first slots of the next
-pub record Walked (v : Volume) (count : ℕ) (seen : List Bool) (order : List ℕ) (done part : ℕ) : Type 0 where
+pub record Walked (v : Volume) (count : ℕ) (seen : List Bool) (order : List ℕ)
+    (done part : ℕ) : Type 0 where
   pub listing : IsOrder count seen order
   pub walk : IsWalk v seen (IsLooked order done part)
 
@@ -46,7 +51,8 @@ pub record Walked (v : Volume) (count : ℕ) (seen : List Bool) (order : List �
 pub record IsWholeWalk (v : Volume) (seen : List Bool) : Type 0 where
   pub reached : (i : ℕ) → is_seen seen i ≡ true → (way : Way) × (inode_at v way ≡ Some i)
   pub all : (way : Way) (i : ℕ) → inode_at v way ≡ Some i → is_seen seen i ≡ true
-  pub once : (d k c l : ℕ) (e f : Entry) → is_seen seen d ≡ true → is_seen seen c ≡ true → slot v d k ≡ Some e → slot v c l ≡ Some f → e.inode ≡ f.inode → (d ≡ c) × (k ≡ l)
+  pub once : (d k c l : ℕ) (e f : Entry) → is_seen seen d ≡ true → is_seen seen c ≡ true
+      → slot v d k ≡ Some e → slot v c l ≡ Some f → e.inode ≡ f.inode → (d ≡ c) × (k ≡ l)
 
 -- a walk that found the root alone
 pub record Starts (count : ℕ) (seen : List Bool) (order : List ℕ) : Type 0 where
@@ -54,6 +60,8 @@ pub record Starts (count : ℕ) (seen : List Bool) (order : List ℕ) : Type 0 w
   pub marks : seen ≡ slice_set (replicate count false) 0 true
 
 -- an inode is found, or was before
-abbrev pub Finds : (is_new : Bool) → (inode : ℕ) → (seen : List Bool) (order : List ℕ) (after : List Bool) (next : List ℕ) → Type 0
-Finds true i seen order after next = (is_seen seen i ≡ false) × (after ≡ slice_set seen i true) × (next ≡ order ++ i ∷ [])
+abbrev pub Finds : (is_new : Bool) → (inode : ℕ)
+    → (seen : List Bool) (order : List ℕ) (after : List Bool) (next : List ℕ) → Type 0
+Finds true i seen order after next =
+    (is_seen seen i ≡ false) × (after ≡ slice_set seen i true) × (next ≡ order ++ i ∷ [])
 Finds false i seen order after next = (is_seen seen i ≡ true) × (after ≡ seen) × (next ≡ order)

@@ -1,5 +1,5 @@
 -- What a chair may draw from what it sees, whatever is known by then.
-use Rattle.std.proofs.Common.{◌≡◌, ℕ, ◌<◌, Bool, true, cond, List, [], ◌∷◌, ◌++◌, inl, inr, sym, refl, ap, ◌∙◌, subst, arith, Some, None}
+use Rattle.std.proofs.Common.{◌≡◌, ℕ, ◌<◌, Bool, true, cond, List, [], ◌∷◌, ◌++◌, inl, inr, sym, ap, ◌∙◌, subst, arith, Some, None}
 use Rattle.std.proofs.lemmas.Bool.{false≢true}
 use mathlib.Core.Logic.{dite}
 use native.Mathlib.Decide.{ℕ_discrete}
@@ -17,7 +17,7 @@ use Rattle.mq_turns.specs.declared.turn.Item.{Item}
 use Rattle.mq_turns.proofs.Lists.{miss}
 use Rattle.mq_turns.proofs.MarksClaims.{mark_apart}
 use Rattle.mq_turns.proofs.DeskSlots.{turn_at_slot}
-use Rattle.mq_turns.proofs.DeskTurns.{along}
+use Rattle.mq_turns.proofs.DeskTurns.{along, times_refreshed}
 
 some_same : {A : Type 0} {a b : A} → Some a ≡ Some b → a ≡ b
 some_same e = cc
@@ -56,15 +56,11 @@ module _ {P Q R E : Type 0} (μ : Meaning P Q R E) where
   renewed_known touched L k [] about = tt
   renewed_known touched L k (h ∷ hs) about = ((λ e. ap (λ b. cond b L h.1) (ap touched e ∙ about)), renewed_known touched L k hs about)
 
-  pub times_renewed : (touched : ℕ → Bool) (L : Known P Q R E) (k : ℕ) (l : List (ℕ × Known P Q R E)) → times k (refreshed touched L l) ≡ times k l
-  times_renewed touched L k [] = refl
-  times_renewed touched L k (h ∷ hs) = let ih = times_renewed touched L k hs in omega arith
-
   -- after a step of its own that is about a turn which it holds, the chair knows that turn by it
   pub stay_renewed : (touched : ℕ → Bool) (L K : Known P Q R E) (v w : ChairView P Q R E) (t : Turn) (k : ℕ) → w.held ≡ refreshed touched L v.held → touched k ≡ true → 0 < times k v.held → turn_at K.opening k ≡ t → Sees μ w K → μ.ok L × Stay μ t L K
   stay_renewed touched L K v w t k held about mine is s =
       held_seen k (λ N. N ≡ L) (μ.ok L × Stay μ t L K) (refreshed touched L v.held) (λ j N. μ.ok N × Stay μ (turn_at K.opening j) N K)
-      (let z = times_renewed touched L k v.held in omega arith)
+      (let z = times_refreshed touched L k v.held in omega arith)
       (renewed_known touched L k v.held about)
       (subst (Each (λ h. μ.ok h.1 × Stay μ (turn_at K.opening h.0) h.1 K)) held s.held)
       (λ N a same. subst (λ (z : Known P Q R E). μ.ok z × Stay μ t z K) same (a.0, subst (λ u. Stay μ u N K) is a.1))

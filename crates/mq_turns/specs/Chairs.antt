@@ -28,7 +28,8 @@ module _ {P Q R E : Type 0} (μ : Meaning P Q R E) where
   -- What a desk that has ended shows: there is one history, which is legal. The values are what it says,
   -- each number is one draw of a chair, what the chairs read was the machine's at its number, and along
   -- each chair's groups the numbers are in order.
-  pub record DeskEnded (o : Opening P Q R) (views : List (ChairView P Q R E)) (pages : List P) (sides : List Q) (root : R) (next base : ℕ) : Type 0 where
+  pub record DeskEnded (o : Opening P Q R) (views : List (ChairView P Q R E)) (pages : List P)
+      (sides : List Q) (root : R) (next base : ℕ) : Type 0 where
     pub known : Known P Q R E
     pub opening : known.opening ≡ o
     pub ok : μ.ok known

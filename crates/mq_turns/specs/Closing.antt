@@ -21,7 +21,8 @@ module _ {M P Q R E : Type 0} where
   ArePages xs pages = (b : ℕ) (p : P) → slice_get pages b ≡ Some p → get_elem? xs b ≡ some (Some (Page p))
 
   abbrev pub AreSides : ℕ → List (Option (Item M P Q R E)) → List Q → Type 0
-  AreSides n xs sides = (i : ℕ) (q : Q) → slice_get sides i ≡ Some q → get_elem? xs (n + i) ≡ some (Some (Side q))
+  AreSides n xs sides =
+      (i : ℕ) (q : Q) → slice_get sides i ≡ Some q → get_elem? xs (n + i) ≡ some (Some (Side q))
 
   abbrev pub IsRoot : ℕ → List (Option (Item M P Q R E)) → R → Type 0
   IsRoot n xs r = get_elem? xs n ≡ some (Some (Root r))

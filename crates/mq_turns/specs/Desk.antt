@@ -37,7 +37,9 @@ module _ {P Q R : Type 0} (o : Opening P Q R) where
   slot_of Root = length o.pages + length o.sides
 
   abbrev pub turn_at : ℕ → Turn
-  turn_at k = cond (nat_lt k (length o.pages)) (Page k) (cond (nat_lt k (length o.pages + length o.sides)) (Side (k - length o.pages)) Root)
+  turn_at k =
+      cond (nat_lt k (length o.pages)) (Page k)
+      (cond (nat_lt k (length o.pages + length o.sides)) (Side (k - length o.pages)) Root)
 
 -- ---- views
 
@@ -67,11 +69,24 @@ module _ {P Q R E : Type 0} where
 
   -- a view that knows and holds nothing
   abbrev pub blank : ChairView P Q R E
-  blank = record { parts = 0; opening = None; session = 0; seen = 0; hand = 0; held = []; drawn = []; read = []; reading = unread }
+  blank =
+      record {
+        parts = 0;
+        opening = None;
+        session = 0;
+        seen = 0;
+        hand = 0;
+        held = [];
+        drawn = [];
+        read = [];
+        reading = unread;
+      }
 
   -- a new chair
   abbrev pub fresh : Opening P Q R → ℕ → ChairView P Q R E
-  fresh o i = record blank { parts = 1; opening = Some o; session = i; seen = o.base; reading = read_first o.base }
+  fresh o i =
+      record blank
+      { parts = 1; opening = Some o; session = i; seen = o.base; reading = read_first o.base }
 
   -- the slots from j on, n of them, all held since the desk was opened
   abbrev pub slots_from : Opening P Q R → ℕ → ℕ → List (ℕ × Known P Q R E)
@@ -80,7 +95,15 @@ module _ {P Q R E : Type 0} where
 
   -- the view that stands for all chairs from the i-th on, and holds the first n slots
   abbrev pub laying : Opening P Q R → ℕ → ℕ → ℕ → ChairView P Q R E
-  laying o parts i n = record blank { parts = parts; opening = Some o; session = i; seen = o.base; held = slots_from o 0 n; reading = read_first o.base }
+  laying o parts i n =
+      record blank {
+        parts = parts;
+        opening = Some o;
+        session = i;
+        seen = o.base;
+        held = slots_from o 0 n;
+        reading = read_first o.base;
+      }
 
   -- at first one view holds all turns
   abbrev pub first_view : Opening P Q R → ℕ → ChairView P Q R E
@@ -91,7 +114,9 @@ module _ {P Q R E : Type 0} where
   others v = record v { parts = v.parts - 1; session = suc v.session }
 
   abbrev pub seated : ChairView P Q R E → ChairView P Q R E
-  seated v = record blank { parts = 1; opening = v.opening; session = v.session; seen = v.seen; reading = v.reading }
+  seated v =
+      record blank
+      { parts = 1; opening = v.opening; session = v.session; seen = v.seen; reading = v.reading }
 
   -- a note of what the chair saw and drew, for another
   abbrev pub noted : ChairView P Q R E → ChairView P Q R E
@@ -102,7 +127,14 @@ module _ {P Q R E : Type 0} where
 
   -- two chairs are one
   abbrev pub joined : ChairView P Q R E → ChairView P Q R E → ChairView P Q R E
-  joined v w = record v { parts = v.parts + w.parts; seen = max v.seen w.seen; drawn = v.drawn ++ w.drawn; read = v.read ++ w.read; reading = read_both v.reading w.reading }
+  joined v w =
+      record v {
+        parts = v.parts + w.parts;
+        seen = max v.seen w.seen;
+        drawn = v.drawn ++ w.drawn;
+        read = v.read ++ w.read;
+        reading = read_both v.reading w.reading;
+      }
 
   -- what the chairs drew and read, the last chair's first
   abbrev pub drawn_of : List (ChairView P Q R E) → List (ℕ × E)
@@ -156,7 +188,8 @@ module _ {P Q R E : Type 0} (μ : Meaning P Q R E) where
   -- what a draw asks: whatever is known by now, the chair holds all that the entry changes, the entry may
   -- be drawn, and the queue's mark is not above its number
   pub record Covers (e : E) (v : ChairView P Q R E) : Type 0 where
-    pub held : (K : Known P Q R E) → Sees v K → (t : Turn) → IsTurn K.opening t → μ.touches K.log e t ≡ true → 0 < times (slot_of K.opening t) v.held
+    pub held : (K : Known P Q R E) → Sees v K → (t : Turn) → IsTurn K.opening t
+        → μ.touches K.log e t ≡ true → 0 < times (slot_of K.opening t) v.held
     pub may : (K : Known P Q R E) → Sees v K → newest K < 2 ^ 63 → μ.may e K
     pub mark : (K : Known P Q R E) → Sees v K → mark_of (μ.queue e) K.claims ≤ suc (newest K)
 
@@ -241,7 +274,8 @@ module _ {M P Q R E : Type 0} (μ : Meaning P Q R E) where
   module _ (turn : ℕ → Turn) where
     pub record Turned (K : Known P Q R E) (s : Now M P Q R E) (k : ℕ) : Type 0 where
       pub word : slice_index s.words k ≡ holders k s.views
-      pub home : holders k s.views ≡ 0 → (x : Item M P Q R E) × (get_elem? s.homes k ≡ some (some (Some x))) × Stands (turn k) K x
+      pub home : holders k s.views ≡ 0
+          → (x : Item M P Q R E) × (get_elem? s.homes k ≡ some (some (Some x))) × Stands (turn k) K x
       pub away : holders k s.views ≡ 1 → hands k s.views ≡ 0 → get_elem? s.homes k ≡ some (some None)
 
     pub record Turns (K : Known P Q R E) (s : Now M P Q R E) : Type 0 where
@@ -249,7 +283,8 @@ module _ {M P Q R E : Type 0} (μ : Meaning P Q R E) where
       pub ok : μ.ok K
       pub single : (k : ℕ) → holders k s.views ≤ 1
       pub each_turn : (k : ℕ) → k < length s.homes → Turned K s k
-      pub each_chair : (j : ℕ) (v : ChairView P Q R E) → get_elem? s.views j ≡ some v → Holder μ turn (length s.homes) K v
+      pub each_chair : (j : ℕ) (v : ChairView P Q R E) → get_elem? s.views j ≡ some v
+          → Holder μ turn (length s.homes) K v
 
   -- numbers: the counter is the newest number, and each number was drawn by one chair
   pub record Numbers (chairs : ℕ) (K : Known P Q R E) (s : Now M P Q R E) : Type 0 where
@@ -258,35 +293,49 @@ module _ {M P Q R E : Type 0} (μ : Meaning P Q R E) where
     pub counted : total (λ v. length v.drawn) s.views ≡ length K.log
     pub once : (n : ℕ) → K.opening.base < n → n ≤ newest K → total (λ v. times n v.drawn) s.views ≡ 1
     pub bounds : (K.opening.base ≤ 2 ^ 62) × (0 < chairs)
-    pub each_chair : (j : ℕ) (v : ChairView P Q R E) → get_elem? s.views j ≡ some v → Drawer μ (allotment chairs) K v
+    pub each_chair : (j : ℕ) (v : ChairView P Q R E) → get_elem? s.views j ≡ some v
+        → Drawer μ (allotment chairs) K v
 
   -- the other words: the queues' marks and the base; what the chairs read of them, and each charge stands
   -- in one view
   pub record Words (K : Known P Q R E) (s : Now M P Q R E) : Type 0 where
     pub wide : length s.words ≡ suc (suc (length s.homes + length K.opening.sides))
-    pub marks : (q : ℕ) → q < length K.opening.sides → slice_index s.words (suc (length s.homes + q)) ≡ mark_of q K.claims
+    pub marks : (q : ℕ) → q < length K.opening.sides
+        → slice_index s.words (suc (length s.homes + q)) ≡ mark_of q K.claims
     pub base : slice_index s.words (suc (length s.homes + length K.opening.sides)) ≡ K.word
     pub marked : Marked μ K
     pub charges : (f : Charge → Bool) → total (λ v. tally f v.reading.charged) s.views ≡ tally f K.charges
     pub each_chair : (j : ℕ) (v : ChairView P Q R E) → get_elem? s.views j ≡ some v → Reader μ K v.reading
-    pub idle : (j : ℕ) (v : ChairView P Q R E) → get_elem? s.views j ≡ some v → v.parts ≡ 0 → v.reading.charged ≡ []
+    pub idle : (j : ℕ) (v : ChairView P Q R E) → get_elem? s.views j ≡ some v → v.parts ≡ 0
+        → v.reading.charged ≡ []
 
   -- all that is known together, with what each layer of the rule says of it
   abbrev pub Ruled : Opening P Q R → ℕ → Now M P Q R E → Type 0
-  Ruled o chairs s = (K : Known P Q R E) × (K.opening ≡ o) × Turns (turn_at o) K s × Numbers chairs K s × Words K s
+  Ruled o chairs s =
+      (K : Known P Q R E) × (K.opening ≡ o) × Turns (turn_at o) K s × Numbers chairs K s × Words K s
 
   -- ---- what each step shows
 
   abbrev pub taken : At M P Q R E → Sat M P Q R E → ℕ → Sat M P Q R E → Type 0
   taken st me n me' =
-      (n ≡ 0 → (x : Item M P Q R E) × (K : Known P Q R E) × (me' ≡ (record me.0 { hand = suc st.word; held = (st.word, K) ∷ me.0.held }, (st.word, Some x) ∷ [])) × Sees μ me.0 K × Stands (turn_at K.opening st.word) K x)
+      (n ≡ 0
+      → (x : Item M P Q R E) × (K : Known P Q R E)
+      × (me' ≡ (
+        record me.0 { hand = suc st.word; held = (st.word, K) ∷ me.0.held },
+        (st.word, Some x) ∷ [],
+      ))
+      × Sees μ me.0 K × Stands (turn_at K.opening st.word) K x)
       × (n ≢ 0 → me' ≡ me)
 
   abbrev pub drew_one : E → At M P Q R E → Sat M P Q R E → ℕ → Sat M P Q R E → Type 0
-  drew_one e st me n me' = ((K : Known P Q R E) × (me' ≡ (after_draw μ e K me.0, me.1)) × (newest K ≡ n) × Sees μ me.0 K) × Below n me.0 × (n < 2 ^ 63) × (me.0.parts ≡ 1 → IsInOrder μ me'.0)
+  drew_one e st me n me' =
+      ((K : Known P Q R E) × (me' ≡ (after_draw μ e K me.0, me.1)) × (newest K ≡ n) × Sees μ me.0 K)
+      × Below n me.0 × (n < 2 ^ 63) × (me.0.parts ≡ 1 → IsInOrder μ me'.0)
 
   abbrev pub looked : Option E → At M P Q R E → Sat M P Q R E → ℕ → Sat M P Q R E → Type 0
-  looked o st me n me' = ((K : Known P Q R E) × (me' ≡ (after_look o K me.0, me.1)) × (newest K ≡ n) × Sees μ me.0 K) × Below n me.0 × (me.0.parts ≡ 1 → IsInOrder μ me'.0)
+  looked o st me n me' =
+      ((K : Known P Q R E) × (me' ≡ (after_look o K me.0, me.1)) × (newest K ≡ n) × Sees μ me.0 K)
+      × Below n me.0 × (me.0.parts ≡ 1 → IsInOrder μ me'.0)
 
 module _ {M P Q R E : Type 0} where
   abbrev pub settled : At M P Q R E → Sat M P Q R E → ℕ → Sat M P Q R E → Type 0
@@ -300,4 +349,10 @@ module _ {M P Q R E : Type 0} where
 
   -- how the desk of the key was opened
   abbrev pub opening_of : Start M P Q R E → Opening P Q R
-  opening_of key = record { pages = key.pages.value.items; sides = key.sides.value.items; root = key.root.value; base = key.base }
+  opening_of key =
+      record {
+        pages = key.pages.value.items;
+        sides = key.sides.value.items;
+        root = key.root.value;
+        base = key.base;
+      }

@@ -33,34 +33,52 @@ module _ {P Q R E : Type 0} where
   unread = record { swept = 0; low = 0; done = 0; base = 0; pages = []; answers = []; charged = [] }
 
   abbrev pub read_first : ℕ → Reading P Q R E
-  read_first base = record { swept = 0; low = 0; done = base; base = base; pages = []; answers = []; charged = [] }
+  read_first base =
+      record { swept = 0; low = 0; done = base; base = base; pages = []; answers = []; charged = [] }
 
   -- a sweep over `queues` queues has passed n of them, whose numbers up to `low` are done
   abbrev pub passed : ℕ → ℕ → ℕ → Reading P Q R E → Reading P Q R E
-  passed queues n low r = record r { swept = n; low = low; done = cond (nat_le queues n) (max r.done low) r.done }
+  passed queues n low r =
+      record r { swept = n; low = low; done = cond (nat_le queues n) (max r.done low) r.done }
 
   -- all numbers of the queue up to n are done: this begins a sweep at the first queue, and carries one on
   -- at the next
   abbrev pub shown : ℕ → ℕ → ℕ → Reading P Q R E → Reading P Q R E
-  shown queues q n r = cond (nat_eq q 0) (passed queues 1 n r) (cond (nat_eq q r.swept) (passed queues (suc q) (min r.low n) r) r)
+  shown queues q n r =
+      cond (nat_eq q 0) (passed queues 1 n r)
+      (cond (nat_eq q r.swept) (passed queues (suc q) (min r.low n) r) r)
 
   -- what two chairs read and noted; pages and answers are forgotten
   abbrev pub read_both : Reading P Q R E → Reading P Q R E → Reading P Q R E
-  read_both r t = record { swept = 0; low = 0; done = max r.done t.done; base = max r.base t.base; pages = []; answers = []; charged = r.charged ++ t.charged }
+  read_both r t =
+      record {
+        swept = 0;
+        low = 0;
+        done = max r.done t.done;
+        base = max r.base t.base;
+        pages = [];
+        answers = [];
+        charged = r.charged ++ t.charged;
+      }
 
 module _ {P Q R E : Type 0} (μ : Meaning P Q R E) where
   -- all numbers up to n of the first queues are done
   abbrev pub DoneBelow : ℕ → ℕ → Known P Q R E → Type 0
-  DoneBelow queues n K = (m : ℕ) (e : E) → HasNumberAt K.opening.base K.log m e → m ≤ n → μ.queue e < queues → is_claimed (μ.queue e) m K.claims ≡ true
+  DoneBelow queues n K =
+      (m : ℕ) (e : E) → HasNumberAt K.opening.base K.log m e → m ≤ n → μ.queue e < queues
+      → is_claimed (μ.queue e) m K.claims ≡ true
 
   -- all numbers up to n are done
   abbrev pub DoneTo : ℕ → Known P Q R E → Type 0
-  DoneTo n K = (m : ℕ) (e : E) → HasNumberAt K.opening.base K.log m e → m ≤ n → is_claimed (μ.queue e) m K.claims ≡ true
+  DoneTo n K =
+      (m : ℕ) (e : E) → HasNumberAt K.opening.base K.log m e → m ≤ n
+      → is_claimed (μ.queue e) m K.claims ≡ true
 
   -- each number of a queue that isn't done is at or above its mark
   pub record Marked (K : Known P Q R E) : Type 0 where
     pub own : (n : ℕ) (e : E) → HasNumberAt K.opening.base K.log n e → μ.queue e < length K.opening.sides
-    pub undone : (n : ℕ) (e : E) → HasNumberAt K.opening.base K.log n e → is_claimed (μ.queue e) n K.claims ≡ false → mark_of (μ.queue e) K.claims ≤ n
+    pub undone : (n : ℕ) (e : E) → HasNumberAt K.opening.base K.log n e
+        → is_claimed (μ.queue e) n K.claims ≡ false → mark_of (μ.queue e) K.claims ≤ n
     pub above : (q : ℕ) → 1 ≤ mark_of q K.claims
     pub word : K.opening.base ≤ K.word
 

@@ -100,6 +100,9 @@ pub record Meaning (P Q R E : Type 0) : Type 1 where
 pub record AreLaws {P Q R E : Type 0} (μ : Meaning P Q R E) : Type 0 where
   pub own : (log : List E) (e : E) → μ.touches log e (Side (μ.queue e)) ≡ true
   pub ok_drawn : (e : E) (K : Known P Q R E) → μ.ok K → μ.may e K → μ.ok (drawn e K)
-  pub page_along : (b : ℕ) (K L : Known P Q R E) (x : P) → Stays μ.touches μ.lies (Page b) K L → μ.ok K → μ.ok L → μ.page b K x → μ.page b L x
-  pub side_along : (q : ℕ) (K L : Known P Q R E) (x : Q) → Stays μ.touches μ.lies (Side q) K L → μ.ok K → μ.ok L → μ.side q K x → μ.side q L x
-  pub root_along : (K L : Known P Q R E) (x : R) → Stays μ.touches μ.lies Root K L → μ.ok K → μ.ok L → μ.root K x → μ.root L x
+  pub page_along : (b : ℕ) (K L : Known P Q R E) (x : P) → Stays μ.touches μ.lies (Page b) K L → μ.ok K
+      → μ.ok L → μ.page b K x → μ.page b L x
+  pub side_along : (q : ℕ) (K L : Known P Q R E) (x : Q) → Stays μ.touches μ.lies (Side q) K L → μ.ok K
+      → μ.ok L → μ.side q K x → μ.side q L x
+  pub root_along : (K L : Known P Q R E) (x : R) → Stays μ.touches μ.lies Root K L → μ.ok K → μ.ok L
+      → μ.root K x → μ.root L x

@@ -30,7 +30,9 @@ module _ {P Q R E : Type 0} (μ : Meaning P Q R E) where
   -- read n
   abbrev pub AreMarks : ℕ → ChairView P Q R E → List ℕ → Type 0
   AreMarks n v [] = Unit {0}
-  AreMarks n v (m ∷ ms) = ((K : Known P Q R E) × (mark_of (length ms) K.claims ≡ m) × Sees μ (after_count n v) K) × AreMarks n v ms
+  AreMarks n v (m ∷ ms) =
+      ((K : Known P Q R E) × (mark_of (length ms) K.claims ≡ m) × Sees μ (after_count n v) K)
+      × AreMarks n v ms
 
   -- The chair has read the counter, and then the marks of the first q of `queues` queues. `low` is the
   -- least of the counter and the numbers just below these marks, and all numbers of these queues up to it
@@ -44,7 +46,9 @@ module _ {P Q R E : Type 0} (μ : Meaning P Q R E) where
     pub below : Below counter v
     pub read : (length marks ≡ q) × AreMarks counter v marks
     pub low_is : low ≡ least_below counter marks
-    pub kept : (v.reading.done ≤ reading.done) × (reading.base ≡ v.reading.base) × (reading.pages ≡ v.reading.pages) × (reading.answers ≡ v.reading.answers) × (reading.charged ≡ v.reading.charged)
+    pub kept : (v.reading.done ≤ reading.done) × (reading.base ≡ v.reading.base)
+        × (reading.pages ≡ v.reading.pages) × (reading.answers ≡ v.reading.answers)
+        × (reading.charged ≡ v.reading.charged)
     pub passes : HasPassed queues q low reading
 
   -- The chair has read the counter and then each mark. The front is the least of the counter and the
@@ -58,5 +62,7 @@ module _ {P Q R E : Type 0} (μ : Meaning P Q R E) where
   pub record AfterFront (o : Opening P Q R) (front : ℕ) (v w : ChairView P Q R E) : Type 0 where
     pub swept : ChairView P Q R E
     pub marks : AfterMarks o front v swept
-    pub is : w ≡ record swept { reading = record swept.reading { answers = Front front ∷ swept.reading.answers } }
+    pub is : w
+        ≡ record swept
+        { reading = record swept.reading { answers = Front front ∷ swept.reading.answers } }
     pub done : (K : Known P Q R E) → Sees μ w K → DoneTo μ front K

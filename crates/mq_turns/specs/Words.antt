@@ -30,16 +30,21 @@ module _ {P Q R E : Type 0} where
 
   -- the mark of the queue is read; stored; the base is read; stored
   abbrev pub after_peek : ℕ → ℕ → Known P Q R E → ChairView P Q R E → ChairView P Q R E
-  after_peek q mark K v = record v { reading = shown (queues_of v.opening) q (min (mark - 1) (newest K)) v.reading }
+  after_peek q mark K v =
+      record v { reading = shown (queues_of v.opening) q (min (mark - 1) (newest K)) v.reading }
 
   abbrev pub after_clear : ℕ → ℕ → Known P Q R E → ChairView P Q R E → ChairView P Q R E
-  after_clear q low K v = record (renewed (same_turn (Side q)) (claimed (claim_of q low (newest K)) K) v) { reading = shown (queues_of v.opening) q (min (low - 1) (newest K)) v.reading }
+  after_clear q low K v =
+      record (renewed (same_turn (Side q)) (claimed (claim_of q low (newest K)) K) v)
+      { reading = shown (queues_of v.opening) q (min (low - 1) (newest K)) v.reading }
 
   abbrev pub after_base : ℕ → ChairView P Q R E → ChairView P Q R E
-  after_base b v = record v { reading = record v.reading { base = b; answers = Base b ∷ v.reading.answers } }
+  after_base b v =
+      record v { reading = record v.reading { base = b; answers = Base b ∷ v.reading.answers } }
 
   abbrev pub after_raise : ℕ → Known P Q R E → ChairView P Q R E → ChairView P Q R E
-  after_raise b K v = record (renewed (same_turn Root) (raised b K) v) { reading = record v.reading { base = b } }
+  after_raise b K v =
+      record (renewed (same_turn Root) (raised b K) v) { reading = record v.reading { base = b } }
 
 module _ {P Q R E : Type 0} (μ : Meaning P Q R E) where
   -- what a store of a mark asks, of the numbers below it; and a store of the base
@@ -64,28 +69,43 @@ module _ {P Q R E : Type 0} (μ : Meaning P Q R E) where
 
   abbrev pub after_notice : Notice P → Known P Q R E → ChairView P Q R E → ChairView P Q R E
   after_notice (notice.Home b n) K v = renewed (is_about (notice.Home b n) K) (written (b, n) K) v
-  after_notice (notice.Page b p) K v = record v { reading = record v.reading { pages = (b, p, K) ∷ v.reading.pages } }
-  after_notice (notice.Charge c) K v = record (renewed (is_about (notice.Charge c) K) (charged c K) v) { reading = record v.reading { charged = c ∷ v.reading.charged } }
-  after_notice (notice.Front n) K v = record v { reading = record v.reading { answers = Front n ∷ v.reading.answers } }
+  after_notice (notice.Page b p) K v =
+      record v { reading = record v.reading { pages = (b, p, K) ∷ v.reading.pages } }
+  after_notice (notice.Charge c) K v =
+      record (renewed (is_about (notice.Charge c) K) (charged c K) v)
+      { reading = record v.reading { charged = c ∷ v.reading.charged } }
+  after_notice (notice.Front n) K v =
+      record v { reading = record v.reading { answers = Front n ∷ v.reading.answers } }
 
   -- what a notice asks: the chair holds what it is about, and it fits all that is known
   abbrev pub MayNote : Notice P → ChairView P Q R E → Type 0
-  MayNote (notice.Home b n) v = (K : Known P Q R E) → Sees μ v K → μ.ok (written (b, n) K) × ((t : Turn) → IsTurn K.opening t → μ.lies K.opening (b, n) t ≡ true → 0 < times (slot_of K.opening t) v.held)
+  MayNote (notice.Home b n) v =
+      (K : Known P Q R E) → Sees μ v K
+      → μ.ok (written (b, n) K)
+      × ((t : Turn) → IsTurn K.opening t → μ.lies K.opening (b, n) t ≡ true
+      → 0 < times (slot_of K.opening t) v.held)
   MayNote (notice.Page b p) v = (K : Known P Q R E) → Sees μ v K → μ.page b K p
-  MayNote (notice.Charge c) v = (K : Known P Q R E) → Sees μ v K → μ.ok (charged c K) × (0 < times (slot_of K.opening c.port) v.held)
+  MayNote (notice.Charge c) v =
+      (K : Known P Q R E) → Sees μ v K
+      → μ.ok (charged c K) × (0 < times (slot_of K.opening c.port) v.held)
   MayNote (notice.Front n) v = (K : Known P Q R E) → Sees μ v K → DoneTo μ n K
 
   -- ---- what each step shows
 
   module _ {M : Type 0} where
     abbrev pub peeked : At M P Q R E → Sat M P Q R E → ℕ → Sat M P Q R E → Type 0
-    peeked st me n me' = (K : Known P Q R E) × (me' ≡ (after_peek (st.word - suc st.slots) n K me.0, me.1)) × (mark_of (st.word - suc st.slots) K.claims ≡ n) × Sees μ me.0 K
+    peeked st me n me' =
+        (K : Known P Q R E) × (me' ≡ (after_peek (st.word - suc st.slots) n K me.0, me.1))
+        × (mark_of (st.word - suc st.slots) K.claims ≡ n) × Sees μ me.0 K
 
     abbrev pub cleared : At M P Q R E → Sat M P Q R E → ℕ → Sat M P Q R E → Type 0
-    cleared st me n me' = (K : Known P Q R E) × (me' ≡ (after_clear (st.word - suc st.slots) n K me.0, me.1)) × Sees μ me.0 K
+    cleared st me n me' =
+        (K : Known P Q R E) × (me' ≡ (after_clear (st.word - suc st.slots) n K me.0, me.1))
+        × Sees μ me.0 K
 
     abbrev pub based : At M P Q R E → Sat M P Q R E → ℕ → Sat M P Q R E → Type 0
-    based st me n me' = (K : Known P Q R E) × (me' ≡ (after_base n me.0, me.1)) × (K.word ≡ n) × Sees μ me.0 K
+    based st me n me' =
+        (K : Known P Q R E) × (me' ≡ (after_base n me.0, me.1)) × (K.word ≡ n) × Sees μ me.0 K
 
     abbrev pub raised_to : At M P Q R E → Sat M P Q R E → ℕ → Sat M P Q R E → Type 0
     raised_to st me n me' = (K : Known P Q R E) × (me' ≡ (after_raise n K me.0, me.1)) × Sees μ me.0 K

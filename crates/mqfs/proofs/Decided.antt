@@ -6,25 +6,25 @@ use Rattle.mq_blocks.specs.Geometry.{queues_of}
 use Rattle.mq_blocks.specs.Journal.{AreWhole}
 use Rattle.mq_blocks.specs.declared.geometry.Geometry.{Geometry}
 use Rattle.mq_blocks.specs.declared.geometry.GeometryRefusal.{GeometryRefusal}
-use Rattle.mq_commands.specs.Commands.{RefusesNumbers, numbers_of}
-use Rattle.mq_run_command.specs.RunsScripts.{HoldBadScript, HoldScripts}
-use Rattle.mq_commands.specs.declared.formatting.Numbers.{Numbers}
-use Rattle.mq_ending.specs.Ending.{IsUnlessFailed}
+use Rattle.mq_command_images.specs.Commands.{RefusesNumbers, numbers_of}
+use Rattle.mq_command_run.specs.RunsScripts.{HoldBadScript, HoldScripts}
+use Rattle.mq_command_images.specs.declared.formatting.Numbers.{Numbers}
+use Rattle.mq_command_io.specs.Ending.{IsUnlessFailed}
 use Rattle.mq_image.specs.Drives.{IsRead}
 use Rattle.mq_image.specs.Faults.{HasFault}
 use Rattle.mq_image.specs.File.{DriveImage}
 use Rattle.mq_image.specs.declared.fault.FileFault.{FileFault}
 use Rattle.mq_image_run.specs.Limits.{AreWithin, IsFirstAbove}
 use Rattle.mq_image_run.specs.declared.options.RunOptions.{RunOptions}
-use Rattle.mq_images.specs.Standing.{HasNoVolume, Reads, RefusesDrive, StandsFor}
-use Rattle.mq_images.specs.Views.{view_of}
+use Rattle.mq_image_ops.specs.Standing.{HasNoVolume, Reads, RefusesDrive, StandsFor}
+use Rattle.mq_image_ops.specs.Views.{view_of}
 use Rattle.mq_outside.specs.Outside.{Held, Tells}
 use Rattle.mq_recover.specs.declared.refusal.ImageFault.{ImageFault}
 use Rattle.mq_script.specs.Scripts.{Script}
 use Rattle.mq_tree.specs.Trees.{ReadsAs}
 use Rattle.mq_tree.specs.Volume.{Path, Volume}
 use Rattle.mq_tree.specs.declared.request.Fault.{Fault}
-use Rattle.mq_words.specs.declared.command.RunFlags.{RunFlags}
+use Rattle.mq_cli.specs.declared.command.RunFlags.{RunFlags}
 use Rattle.mqfs.specs.Decided.{ChainsDecide, FileDecides, ImageDecides, IsRunnable, NumbersDecide, RecoveryDecides, RunDecides, TreeDecides, VolumeDecides, above_limit, bad_numbers, bad_script, good_numbers, has_chains, has_file, has_no_file, has_standing, has_tree, is_no_image, no_chains, no_drive, no_image, no_standing, no_tree, no_volume, no_volume_there, none_stands, runs_whole, too_many, unreadable}
 use Rattle.mqfs.specs.Says.{failing, run_options}
 

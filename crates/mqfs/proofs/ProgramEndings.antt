@@ -1,16 +1,16 @@
 -- What the status of the program reports, by what there was to say and how that ended.
 use Rattle.std.proofs.Common.{◌≡◌, ◌≢◌, ◌⊎◌, inl, inr, ℕ, cond, List, Option, Some, None, sym, ◌∙◌, ap, subst, arith}
 use Rattle.std.specs.Prelude.{nat_eq}
-use Rattle.mq_ending.specs.Ending.{EndsWith, IsUnlessFailed}
-use Rattle.mq_ending.proofs.Ending.{unless_wanting, four-or-six}
+use Rattle.mq_command_io.specs.Ending.{EndsWith, IsUnlessFailed}
+use Rattle.mq_command_io.proofs.Ending.{unless_wanting, four-or-six}
 use Rattle.mq_outside.specs.Outside.{FilesState, Rose, SinkState, appended}
-use Rattle.mq_text_run.specs.SaysOfBlocks.{SaysOfBlocks, printed, refused}
-use Rattle.mq_text_run.specs.SaysOfBlocks as blocks_says
-use Rattle.mq_words.specs.Asked.{Asked, Words, asked_of, blocks}
-use Rattle.mq_words.specs.declared.command.BlocksOptions.{BlocksOptions}
-use Rattle.mq_words.specs.declared.refusal.WordsRefusal.{WordsRefusal}
-use Rattle.mq_words.specs.declared.refusal.WordsRefusal.TheVariants as refusal
-use Rattle.mq_ending.specs.Ending.{IsNotLoaded, IsNotSaved, load_failed, load_memory, load_too_long, save_failed, save_memory}
+use Rattle.mq_command_blocks.specs.SaysOfBlocks.{SaysOfBlocks, printed, refused}
+use Rattle.mq_command_blocks.specs.SaysOfBlocks as blocks_says
+use Rattle.mq_cli.specs.Asked.{Asked, Words, asked_of, blocks}
+use Rattle.mq_cli.specs.declared.command.BlocksOptions.{BlocksOptions}
+use Rattle.mq_cli.specs.declared.refusal.WordsRefusal.{WordsRefusal}
+use Rattle.mq_cli.specs.declared.refusal.WordsRefusal.TheVariants as refusal
+use Rattle.mq_command_io.specs.Ending.{IsNotLoaded, IsNotSaved, load_failed, load_memory, load_too_long, save_failed, save_memory}
 use Rattle.mqfs.specs.Decided.{Decides, RunsThere}
 use Rattle.mqfs.specs.Program.{AreUnknown, IsDone, IsEndedRun, IsRefusedText, IsSaid, IsStatus, IsToSay, IsTooLong, KeepsNames, TakesFor, no_command, no_memory, of_command, usage_line}
 use Rattle.mqfs.specs.Says.{Says}

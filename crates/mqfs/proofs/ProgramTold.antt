@@ -1,33 +1,33 @@
 -- What a text that there was to say tells of the files.
 use Rattle.std.proofs.Common.{◌≡◌, ◌≢◌, ◌≤◌, ◌⊎◌, inl, inr, ℕ, suc, Bool, cond, true, false, List, [], ◌∷◌, length, Option, Some, None, refl, sym, ◌∙◌, ap, subst, arith}
 use Rattle.std.specs.Prelude.{option_and_then}
-use Rattle.mq_commands.specs.Commands.{Dumps, Formats, Lists, SaysOfImage, ShowsFile, dumped, formatted, is_image, listed, no_file, no_geometry, no_image, not_dumped, not_listed, not_saved, not_shown, shown, wants_memory}
-use Rattle.mq_generated.specs.Generates.{Generates, SavesUnder, generated}
-use Rattle.mq_generated.specs.Generates as generates
-use Rattle.mq_commands.specs.Recovers.{Recovers, RefusesRecovery, not_recovered, recovered, unsaved}
-use Rattle.mq_commands.specs.Recovers as recovers
-use Rattle.mq_run_command.specs.RunsScripts.{AreLoaded, RefusesRunning, RefusesScript, RefusesScripts, Runs, SaysNothing, are_wanting, ran}
-use Rattle.mq_run_command.specs.RunsScripts as runs
-use Rattle.mq_commands.specs.declared.formatting.Numbers.{Numbers}
-use Rattle.mq_generated.specs.declared.workload.Workload.{Workload}
-use Rattle.mq_ending.specs.Ending.{IsLoaded, IsNotLoaded, IsNotSaved, IsSaved, SaysOf, TakesOver, TakesWithin, load_failed, load_memory, load_too_long, loaded, not_loaded, save_failed, save_memory, wanting}
+use Rattle.mq_command_images.specs.Commands.{Dumps, Formats, Lists, SaysOfImage, ShowsFile, dumped, formatted, is_image, listed, no_file, no_geometry, no_image, not_dumped, not_listed, not_saved, not_shown, shown, wants_memory}
+use Rattle.mq_command_gen.specs.Generates.{Generates, SavesUnder, generated}
+use Rattle.mq_command_gen.specs.Generates as generates
+use Rattle.mq_command_images.specs.Recovers.{Recovers, RefusesRecovery, not_recovered, recovered, unsaved}
+use Rattle.mq_command_images.specs.Recovers as recovers
+use Rattle.mq_command_run.specs.RunsScripts.{AreLoaded, RefusesRunning, RefusesScript, RefusesScripts, Runs, SaysNothing, are_wanting, ran}
+use Rattle.mq_command_run.specs.RunsScripts as runs
+use Rattle.mq_command_images.specs.declared.formatting.Numbers.{Numbers}
+use Rattle.mq_command_gen.specs.declared.workload.Workload.{Workload}
+use Rattle.mq_command_io.specs.Ending.{IsLoaded, IsNotLoaded, IsNotSaved, IsSaved, SaysOf, TakesOver, TakesWithin, load_failed, load_memory, load_too_long, loaded, not_loaded, save_failed, save_memory, wanting}
 use Rattle.mq_image.specs.File.{DriveImage, image_bytes}
 use Rattle.mq_image_run.specs.declared.options.RunOptions.{RunOptions}
 use Rattle.mq_outside.specs.Outside.{FilesState, Held, Holds, HoldsOver, OthersSame, Rose, put_name}
 use Rattle.mq_script.specs.Scripts.{Script}
-use Rattle.mq_text.specs.Refusals.{RefusesText}
-use Rattle.mq_text.specs.declared.refusal.BlockTextCause.{BlockTextCause}
-use Rattle.mq_text_run.specs.Blocks.{refused_line}
-use Rattle.mq_text_run.specs.Left.{SavesLeft}
-use Rattle.mq_text_run.specs.SaysOfBlocks.{SaysOfBlocks, printed, refused}
-use Rattle.mq_text_run.specs.SaysOfBlocks as blocks_says
+use Rattle.mq_block_text.specs.Refusals.{RefusesText}
+use Rattle.mq_block_text.specs.declared.refusal.BlockTextCause.{BlockTextCause}
+use Rattle.mq_command_blocks.specs.Blocks.{refused_line}
+use Rattle.mq_command_blocks.specs.Left.{SavesLeft}
+use Rattle.mq_command_blocks.specs.SaysOfBlocks.{SaysOfBlocks, printed, refused}
+use Rattle.mq_command_blocks.specs.SaysOfBlocks as blocks_says
 use Rattle.mq_tree.specs.Volume.{Path}
-use Rattle.mq_words.specs.Asked.{Asked, Words, asked_of, blocks, cat, dump, format, gen, help, ls, recover, run, version}
-use Rattle.mq_words.specs.declared.command.BlocksOptions.{BlocksOptions}
-use Rattle.mq_words.specs.declared.command.RunFlags.{RunFlags}
+use Rattle.mq_cli.specs.Asked.{Asked, Words, asked_of, blocks, cat, dump, format, gen, help, ls, recover, run, version}
+use Rattle.mq_cli.specs.declared.command.BlocksOptions.{BlocksOptions}
+use Rattle.mq_cli.specs.declared.command.RunFlags.{RunFlags}
 use Rattle.mqfs.specs.Program.{AreUnknown, HoldsTooMuch, IsStatus, IsToSay, KeepsOthers, TakesUpTo, loaded_by, loaded_names, no_command, no_memory, of_command, saved_name, usage_line}
 use Rattle.mqfs.specs.Says.{Says, SaysOnly, asked_workload, numbers, run_options, said}
-use Rattle.mq_text.specs.declared.item.BlockItem.{BlockItem}
+use Rattle.mq_block_text.specs.declared.item.BlockItem.{BlockItem}
 
 -- ---- names
 

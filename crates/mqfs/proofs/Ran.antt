@@ -1,16 +1,16 @@
 -- `run` ends with 0 or 5 only where the scripts were run, the image was saved and the report was said.
 use Rattle.std.proofs.Common.{◌≡◌, ◌⊎◌, inl, inr, ℕ, List, [], ◌∷◌, Option, Some, refl, sym, ◌∙◌, subst, arith}
-use Rattle.mq_commands.specs.Commands.{SaysOfImage, is_image}
-use Rattle.mq_commands.specs.Commands as commands
-use Rattle.mq_run_command.specs.RunsScripts.{RefusesRunning, RefusesScript, RefusesScripts, Runs, SaysNothing, no_image, no_run, no_scripts, not_loaded, not_run, ran, refused, too_many, unsaved, wanting}
-use Rattle.mq_run_command.specs.RunsScripts as runs
-use Rattle.mq_ending.specs.Ending.{EndsWith, IsNotLoaded, IsNotSaved, SaysOf, load_failed, load_memory, load_too_long, save_failed, save_memory}
-use Rattle.mq_ending.specs.Ending as ending
+use Rattle.mq_command_images.specs.Commands.{SaysOfImage, is_image}
+use Rattle.mq_command_images.specs.Commands as commands
+use Rattle.mq_command_run.specs.RunsScripts.{RefusesRunning, RefusesScript, RefusesScripts, Runs, SaysNothing, no_image, no_run, no_scripts, not_loaded, not_run, ran, refused, too_many, unsaved, wanting}
+use Rattle.mq_command_run.specs.RunsScripts as runs
+use Rattle.mq_command_io.specs.Ending.{EndsWith, IsNotLoaded, IsNotSaved, SaysOf, load_failed, load_memory, load_too_long, save_failed, save_memory}
+use Rattle.mq_command_io.specs.Ending as ending
 use Rattle.mq_image.specs.File.{DriveImage}
 use Rattle.mq_outside.specs.Outside.{FilesState, SinkState, appended}
 use Rattle.mq_script.specs.Scripts.{Script}
-use Rattle.mq_words.specs.Asked.{Asked, Words, asked_of, run}
-use Rattle.mq_words.specs.declared.command.RunFlags.{RunFlags}
+use Rattle.mq_cli.specs.Asked.{Asked, Words, asked_of, run}
+use Rattle.mq_cli.specs.declared.command.RunFlags.{RunFlags}
 use Rattle.mqfs.specs.Program.{IsToSay, no_command, no_memory, of_command}
 use Rattle.mqfs.specs.Ran.{IsRan}
 use Rattle.mqfs.specs.Says.{Says, run_options}

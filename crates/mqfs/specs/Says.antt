@@ -1,21 +1,21 @@
 -- What there is to say of what words ask, and with which status: one definition for each command.
 use Rattle.std.specs.Prelude.{◌≡◌, ℕ, List, option_map}
 use Rattle.std.specs.Option.{unwrap_or}
-use Rattle.mq_commands.specs.Commands.{Dumps, Formats, Lists, SaysOfImage, ShowsFile}
-use Rattle.mq_generated.specs.Generates.{Generates}
-use Rattle.mq_commands.specs.Recovers.{Recovers}
-use Rattle.mq_run_command.specs.RunsScripts.{Runs}
-use Rattle.mq_commands.specs.declared.formatting.Numbers.{Numbers}
-use Rattle.mq_generated.specs.declared.workload.Workload.{Workload}
-use Rattle.mq_ending.specs.Ending.{SaysOf}
+use Rattle.mq_command_images.specs.Commands.{Dumps, Formats, Lists, SaysOfImage, ShowsFile}
+use Rattle.mq_command_gen.specs.Generates.{Generates}
+use Rattle.mq_command_images.specs.Recovers.{Recovers}
+use Rattle.mq_command_run.specs.RunsScripts.{Runs}
+use Rattle.mq_command_images.specs.declared.formatting.Numbers.{Numbers}
+use Rattle.mq_command_gen.specs.declared.workload.Workload.{Workload}
+use Rattle.mq_command_io.specs.Ending.{SaysOf}
 use Rattle.mq_image_run.specs.declared.options.RunOptions.{RunOptions}
-use Rattle.mq_images.specs.declared.ports.Failing.{Failing}
+use Rattle.mq_image_ops.specs.declared.ports.Failing.{Failing}
 use Rattle.mq_outside.specs.Outside.{FilesState}
-use Rattle.mq_text_run.specs.SaysOfBlocks.{SaysOfBlocks}
-use Rattle.mq_words.specs.Asked.{Asked, blocks, cat, dump, format, gen, help, ls, recover, run, version}
-use Rattle.mq_words.specs.Help.{help_text, version_line}
-use Rattle.mq_words.specs.declared.command.FailingCommand.{FailingCommand}
-use Rattle.mq_words.specs.declared.command.RunFlags.{RunFlags}
+use Rattle.mq_command_blocks.specs.SaysOfBlocks.{SaysOfBlocks}
+use Rattle.mq_cli.specs.Asked.{Asked, blocks, cat, dump, format, gen, help, ls, recover, run, version}
+use Rattle.mq_cli.specs.Help.{help_text, version_line}
+use Rattle.mq_cli.specs.declared.command.FailingCommand.{FailingCommand}
+use Rattle.mq_cli.specs.declared.command.RunFlags.{RunFlags}
 
 -- this text, and no file is looked at
 pub data SaysOnly (line : List ℕ) (old new : FilesState) : (status : ℕ) → (text : List ℕ) → Type 0 where
@@ -37,12 +37,15 @@ run_options o = record { cut = o.cut; pick = unwrap_or o.pick 0; fail = option_m
 -- what there is to say of what is asked, by what the files show before and after
 abbrev pub Says : Asked → (old new : FilesState) → (status : ℕ) → (text : List ℕ) → Type 0
 Says (blocks file options save) old new status text = SaysOfBlocks file options save old new status text
-Says (format image queues area meta zone) old new status text = Formats (numbers queues area meta zone) image old new status text
-Says (run image scripts options) old new status text = Runs (run_options options) image scripts old new status text
+Says (format image queues area meta zone) old new status text =
+    Formats (numbers queues area meta zone) image old new status text
+Says (run image scripts options) old new status text =
+    Runs (run_options options) image scripts old new status text
 Says (recover image cut pick) old new status text = Recovers cut image old new status text
 Says (ls image) old new status text = SaysOf (SaysOfImage Lists) image old new status text
 Says (cat image path) old new status text = SaysOf (SaysOfImage (ShowsFile path)) image old new status text
-Says (gen seed threads groups save) old new status text = Generates (asked_workload seed threads groups) save old new status text
+Says (gen seed threads groups save) old new status text =
+    Generates (asked_workload seed threads groups) save old new status text
 Says (dump image) old new status text = SaysOf (SaysOfImage Dumps) image old new status text
 Says (help topic) old new status text = SaysOnly (help_text topic) old new status text
 Says version old new status text = SaysOnly version_line old new status text

@@ -1,12 +1,12 @@
 // The program: the command that words ask, over files and an output.
 ghost use Rattle.std.specs.Prelude.{◌≡◌, ◌≢◌, ◌⊎◌, ℕ, List, None, Option, Some, map};
 ghost use Rattle.std.specs.String.{string_bytes};
-ghost use Rattle.mq_ending.specs.Ending.{EndsWith, IsUnlessFailed};
+ghost use Rattle.mq_command_io.specs.Ending.{EndsWith, IsUnlessFailed};
 ghost use Rattle.mq_outside.specs.Outside.{Rose, appended};
-ghost use Rattle.mq_promise.specs.Recovering.{EveryInterleavingIsRecovered};
-ghost use Rattle.mq_words.specs.Asked.{Asked, HasScript, HasSmallNumbers, asked, asked_of, blocks, gen, run};
-ghost use Rattle.mq_words.specs.declared.command.BlocksOptions.{BlocksOptions};
-ghost use Rattle.mq_words.specs.declared.command.RunFlags.{RunFlags};
+ghost use Rattle.mq_run_laws.specs.Recovering.{EveryInterleavingIsRecovered};
+ghost use Rattle.mq_cli.specs.Asked.{Asked, HasScript, HasSmallNumbers, asked, asked_of, blocks, gen, run};
+ghost use Rattle.mq_cli.specs.declared.command.BlocksOptions.{BlocksOptions};
+ghost use Rattle.mq_cli.specs.declared.command.RunFlags.{RunFlags};
 ghost use Rattle.mqfs.specs.Decided.{Decides, RunsThere};
 ghost use Rattle.mqfs.specs.Played.{IsPlayed};
 ghost use Rattle.mqfs.specs.Program.{AreUnknown, IsDone, IsEndedRun, IsRefusedText, IsSaid, IsStatus, IsToSay, IsTooLong, KeepsNames, TakesFor, usage_line};
@@ -28,15 +28,15 @@ use self::format::run_format;
 use self::help::{say_help, say_version};
 use self::ls::run_ls;
 use self::recover::run_recover;
-use self::scripts::run_scripts;
+use self::scripts::run_script_files;
 use self::workload::run_workload;
 use mq_calls::Gate;
-use mq_commands::Numbers;
-use mq_ending::{USAGE, say, say_memory};
+use mq_cli::{Command, WordsRefusal, read_command};
+use mq_command_blocks::run_blocks;
+use mq_command_images::Numbers;
+use mq_command_io::{USAGE, say, say_memory};
 use mq_outside::{Files, Sink};
-use mq_promise::every_interleaving_is_recovered;
-use mq_text_run::run_blocks;
-use mq_words::{Command, WordsRefusal, read_command};
+use mq_run_laws::every_interleaving_is_recovered;
 use std::alloc::Global;
 use std::sync::Wait;
 use std::thread::Threads;
@@ -90,7 +90,7 @@ fn run<F: Files, K: Sink, R: Threads + Wait + Sync, G: Gate + Sync>(
             image,
             scripts,
             options,
-        } => run_scripts(rt, alloc, image, &scripts, options, files, out, gate),
+        } => run_script_files(rt, alloc, image, &scripts, options, files, out, gate),
         Command::Recover { image, cut, pick } => run_recover(alloc, image, cut, pick, files, out),
         Command::Ls { image } => run_ls(alloc, image, files, out),
         Command::Cat { image, path } => run_cat(alloc, image, &path, files, out),

@@ -2,7 +2,7 @@
 #![tactic(auto)]
 
 use mq_calls::Open;
-use mq_ending::say_memory;
+use mq_command_io::say_memory;
 use mq_outside::{RealFiles, RealSink};
 use mqfs::mqfs;
 use std::io::ErrorKind;

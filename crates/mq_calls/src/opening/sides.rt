@@ -5,7 +5,7 @@ ghost use Rattle.mq_calls.specs.Opening.{IsIdle, IsNewSide};
 use mq_blocks::{Geometry, OutOfMemory, QueueNo};
 use mq_drive::Port;
 use mq_pmr::PmrQueue;
-use mq_side::QueueSide;
+use mq_queue_side::QueueSide;
 use std::alloc::Global;
 
 // The side of a queue over its port.

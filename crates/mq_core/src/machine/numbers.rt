@@ -13,7 +13,7 @@ ghost use Rattle.mq_core.specs.Machine.{IsAllowed, happens, Draw, Clear, Acknowl
 use super::Core;
 use crate::CoreRefusal;
 use mq_blocks::{BlockNo, QueueNo, TxNo};
-use mq_ledger::{DESCRIPTOR_BLOCKS, Ledger, Tx};
+use mq_ledger::{Ledger, Tx, descriptor_blocks};
 
 /// Whether this number changed a block last; false for a block that is no home block.
 pub fn is_last_change(ledger: &Ledger, block: BlockNo, number: TxNo) -> bool
@@ -55,12 +55,12 @@ impl Core {
         let logged = &tx.logged;
         let direct = &tx.direct;
         let copies = logged.0.len() as u64;
-        let entries = copies + direct.0.len() as u64 + DESCRIPTOR_BLOCKS;
+        let blocks = descriptor_blocks(tx);
+        let entries = copies + direct.0.len() as u64 + blocks;
         port.is_rung_to(end)
             && entries <= port.room()
-            && place + copies + DESCRIPTOR_BLOCKS
-                <= covered + u64::from(self.ledger.geometry().area())
-            && place + copies < 1 << 62
+            && place + copies + blocks <= covered + u64::from(self.ledger.geometry().area())
+            && place + copies + blocks <= 1 << 62
             && end + entries <= 1 << 63
     }
 

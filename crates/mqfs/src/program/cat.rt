@@ -1,10 +1,10 @@
 // `cat`: the bytes of a file of the tree of an image.
 ghost use Rattle.std.specs.Prelude.{◌≡◌, ℕ, List};
-ghost use Rattle.mq_commands.specs.Commands.{SaysOfImage, ShowsFile};
-ghost use Rattle.mq_ending.specs.Ending.{EndsWith, IsUnlessFailed, SaysOf};
+ghost use Rattle.mq_command_images.specs.Commands.{SaysOfImage, ShowsFile};
+ghost use Rattle.mq_command_io.specs.Ending.{EndsWith, IsUnlessFailed, SaysOf};
 ghost use Rattle.mqfs.specs.Decided.{FileDecides};
 
-use mq_commands::cat;
+use mq_command_images::cat;
 use mq_outside::{Files, Sink};
 use mq_tree::Path;
 use std::alloc::Global;

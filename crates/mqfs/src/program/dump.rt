@@ -1,10 +1,10 @@
 // `dump`: the words and the chains of an image.
 ghost use Rattle.std.specs.Prelude.{◌≡◌, ℕ, List};
-ghost use Rattle.mq_commands.specs.Commands.{Dumps, SaysOfImage};
-ghost use Rattle.mq_ending.specs.Ending.{EndsWith, IsUnlessFailed, SaysOf};
+ghost use Rattle.mq_command_images.specs.Commands.{Dumps, SaysOfImage};
+ghost use Rattle.mq_command_io.specs.Ending.{EndsWith, IsUnlessFailed, SaysOf};
 ghost use Rattle.mqfs.specs.Decided.{ChainsDecide};
 
-use mq_commands::dump;
+use mq_command_images::dump;
 use mq_outside::{Files, Sink};
 use std::alloc::Global;
 

@@ -1,10 +1,10 @@
 // `format`: a new image with the empty file system.
 ghost use Rattle.std.specs.Prelude.{ℕ, List};
-ghost use Rattle.mq_commands.specs.Commands.{Formats};
-ghost use Rattle.mq_ending.specs.Ending.{EndsWith, IsUnlessFailed};
+ghost use Rattle.mq_command_images.specs.Commands.{Formats};
+ghost use Rattle.mq_command_io.specs.Ending.{EndsWith, IsUnlessFailed};
 ghost use Rattle.mqfs.specs.Decided.{NumbersDecide};
 
-use mq_commands::{Numbers, format};
+use mq_command_images::{Numbers, format};
 use mq_outside::{Files, Sink};
 use std::alloc::Global;
 

@@ -1,11 +1,11 @@
 // What the program says of itself.
 ghost use Rattle.std.specs.Prelude.{ℕ, List};
-ghost use Rattle.mq_ending.specs.Ending.{EndsWith};
-ghost use Rattle.mq_words.specs.Help.{help_text, version_line as version_text};
+ghost use Rattle.mq_command_io.specs.Ending.{EndsWith};
+ghost use Rattle.mq_cli.specs.Help.{help_text, version_line as version_text};
 
-use mq_ending::{DONE, say};
+use mq_cli::{Verb, help_on, version_line};
+use mq_command_io::{DONE, say};
 use mq_outside::Sink;
-use mq_words::{Verb, help_on, version_line};
 
 /// Prints the help on a command, or on the program.
 pub fn say_help<K: Sink>(topic: Option<Verb>, out: &mut K) -> u8

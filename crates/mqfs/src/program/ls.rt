@@ -1,10 +1,10 @@
 // `ls`: the tree of an image.
 ghost use Rattle.std.specs.Prelude.{◌≡◌, ℕ, List};
-ghost use Rattle.mq_commands.specs.Commands.{Lists, SaysOfImage};
-ghost use Rattle.mq_ending.specs.Ending.{EndsWith, IsUnlessFailed, SaysOf};
+ghost use Rattle.mq_command_images.specs.Commands.{Lists, SaysOfImage};
+ghost use Rattle.mq_command_io.specs.Ending.{EndsWith, IsUnlessFailed, SaysOf};
 ghost use Rattle.mqfs.specs.Decided.{TreeDecides};
 
-use mq_commands::ls;
+use mq_command_images::ls;
 use mq_outside::{Files, Sink};
 use std::alloc::Global;
 

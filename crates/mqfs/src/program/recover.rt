@@ -1,11 +1,11 @@
 // `recover`: an image, recovered and saved.
 ghost use Rattle.std.specs.Prelude.{◌<◌, ℕ, List, IfSome};
-ghost use Rattle.mq_commands.specs.Recovers.{Recovers};
-ghost use Rattle.mq_ending.specs.Ending.{EndsWith, IsUnlessFailed};
-ghost use Rattle.mq_words.specs.Asked.{number_end};
+ghost use Rattle.mq_command_images.specs.Recovers.{Recovers};
+ghost use Rattle.mq_command_io.specs.Ending.{EndsWith, IsUnlessFailed};
+ghost use Rattle.mq_cli.specs.Asked.{number_end};
 ghost use Rattle.mqfs.specs.Decided.{RecoveryDecides};
 
-use mq_commands::recover;
+use mq_command_images::recover;
 use mq_outside::{Files, Sink};
 use std::alloc::Global;
 

@@ -1,17 +1,17 @@
 // `run`: scripts of requests, run on an image.
 ghost use Rattle.std.specs.Prelude.{◌≡◌, ◌⊎◌, ◌≤◌, ℕ, List, length, map};
-ghost use Rattle.mq_run_command.specs.RunsScripts.{Runs};
-ghost use Rattle.mq_ending.specs.Ending.{EndsWith, IsUnlessFailed};
-ghost use Rattle.mq_words.specs.Asked.{AreSmallOfRun};
+ghost use Rattle.mq_command_run.specs.RunsScripts.{Runs};
+ghost use Rattle.mq_command_io.specs.Ending.{EndsWith, IsUnlessFailed};
+ghost use Rattle.mq_cli.specs.Asked.{AreSmallOfRun};
 ghost use Rattle.mqfs.specs.Decided.{IsRunnable, RunDecides};
 ghost use Rattle.mqfs.specs.Says.{failing, run_options};
 
 use mq_calls::Gate;
+use mq_cli::{FailingCommand, RunFlags};
+use mq_command_run::run;
+use mq_image_ops::Failing;
 use mq_image_run::RunOptions;
-use mq_images::Failing;
 use mq_outside::{Files, Sink};
-use mq_run_command::run;
-use mq_words::{FailingCommand, RunFlags};
 use std::alloc::Global;
 use std::sync::Wait;
 use std::thread::Threads;
@@ -41,7 +41,7 @@ fn options_of(options: RunFlags) -> RunOptions
 }
 
 /// Runs `run IMAGE SCRIPT..` with its options.
-pub fn run_scripts<F: Files, K: Sink, R: Threads + Wait + Sync, G: Gate + Sync>(
+pub fn run_script_files<F: Files, K: Sink, R: Threads + Wait + Sync, G: Gate + Sync>(
     rt: &R,
     alloc: Global,
     image: &str,

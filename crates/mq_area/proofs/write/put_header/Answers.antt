@@ -10,7 +10,7 @@ returns c =
     let l : c.len.result ≡ length i.logged.items = search rules in
     let r : c.len-2.result ≡ length i.revoked.items = search rules in
     let d : Descriptor = record { queue = i.queue; number = i.number; place = i.place; prev_place = i.prev_place; prev_number = i.prev_number; logged = i.logged.items; revoked = i.revoked.items } in
-    let P : Descriptor → Type 0 = λ x. c.put-9.new.block ≡ written c.args.block.now 0 (header_bytes x) in
-    subst P c.d.view_is (header-written _ _ _ _ _ _ _ _ _ _ d c.requires.whole c.put.ensures
-    (rw c.to_le_bytes.ensures at c.put-2.ensures) (rw c.to_le_bytes-2.ensures at c.put-3.ensures) (rw c.to_le_bytes-3.ensures at c.put-4.ensures) (rw c.to_le_bytes-4.ensures at c.put-5.ensures)
-    (rw c.to_le_bytes-5.ensures at c.put-6.ensures) (rw c.to_le_bytes-6.ensures at c.put-7.ensures) (rw (c.to_le_bytes-7.ensures, l) at c.put-8.ensures) (rw (c.to_le_bytes-8.ensures, r) at c.put-9.ensures))
+    let P : Descriptor → Type 0 = λ x. c.put-9.new.block ≡ written c.args.block.now 0 (header_bytes c.args.stamp.magic c.args.stamp.version x) in
+    subst P c.d.view_is (header-written c.args.stamp.magic c.args.stamp.version _ _ _ _ _ _ _ _ _ _ d c.requires.whole (rw c.to_le_bytes.ensures at c.put.ensures)
+    (rw c.to_le_bytes-2.ensures at c.put-2.ensures) (rw c.to_le_bytes-3.ensures at c.put-3.ensures) (rw c.to_le_bytes-4.ensures at c.put-4.ensures) (rw c.to_le_bytes-5.ensures at c.put-5.ensures)
+    (rw c.to_le_bytes-6.ensures at c.put-6.ensures) (rw c.to_le_bytes-7.ensures at c.put-7.ensures) (rw (c.to_le_bytes-8.ensures, l) at c.put-8.ensures) (rw (c.to_le_bytes-9.ensures, r) at c.put-9.ensures))

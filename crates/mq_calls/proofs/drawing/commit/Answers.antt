@@ -1,4 +1,5 @@
-use Rattle.std.proofs.Common.{◌∙◌, ℕ, sym, subst}
+use Rattle.std.proofs.Common.{◌∙◌, ℕ, ◌≤◌, length, sym, subst}
+use Rattle.mq_blocks.specs.Geometry.{write_limit}
 use Rattle.mq_blocks.specs.declared.geometry.Geometry.{Geometry}
 use Rattle.mq_turns.specs.AtDesk.{start_of, view}
 use Rattle.mq_turns.specs.Desk.{slot_of}
@@ -25,6 +26,10 @@ make_ready-requires-clause-holds g c =
 pub make_ready-requires-clause-done : goal.make_ready-requires-clause-done
 make_ready-requires-clause-done g c =
     subst (λ (x : Geometry). IsDoneOnCells x c.args.asked.now.queue c.args.asked.now.requests.now c.args.held.now.cells c.args.done.now) (sym (c.take_side-side.ensures.geometry ∙ c.requires.geometry)) c.requires.done
+
+pub make_ready-requires-clause-few : goal.make_ready-requires-clause-few
+make_ready-requires-clause-few g c =
+    subst (λ (x : Geometry). length c.args.done.now.writes.items ≤ write_limit x) (sym (c.take_side-side.ensures.geometry ∙ c.requires.geometry)) c.requires.few
 
 pub draw_group-requires-clause-done : goal.draw_group-requires-clause-done
 draw_group-requires-clause-done g c =

@@ -1,6 +1,6 @@
 use Rattle.std.proofs.Common.{◌≡◌, ◌∙◌, ℕ, List, sym, ap, subst}
-use Rattle.mq_files.specs.Entries.{tx_by}
-use Rattle.mq_files.specs.Group.{file_group}
+use Rattle.mq_file_entries.specs.Entries.{tx_by}
+use Rattle.mq_file_entries.specs.Group.{file_group}
 use Rattle.mq_journal.specs.Numbers.{Draws, HoldsNumbered, IsReported, Seat}
 use Rattle.mq_pages.specs.Held.{Cells}
 use Rattle.mq_turns.specs.AtDesk.{start_of, view}

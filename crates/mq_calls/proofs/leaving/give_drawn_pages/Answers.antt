@@ -1,6 +1,6 @@
 use Rattle.std.proofs.Common.{rules, ◌≡◌, ◌∙◌, [], ℕ, refl}
-use Rattle.mq_files.specs.Group.{file_group}
-use Rattle.mq_rules.proofs.Meaning.{laws}
+use Rattle.mq_file_entries.specs.Group.{file_group}
+use Rattle.mq_desk_laws.proofs.Meaning.{laws}
 use Rattle.mq_turns.specs.AtDesk.{start_of, view}
 use Rattle.mq_calls.specs.Runs.{file_values, files}
 use Rattle.mq_calls.proofs.LeavingAfterDraw.{left-all, left-last, left-more, left-none, left-rises}

@@ -1,13 +1,13 @@
-use Rattle.std.proofs.Common.{◌∙◌, ℕ, List, sym, subst}
+use Rattle.std.proofs.Common.{◌∙◌, ℕ, ◌≤◌, List, length, sym, ap, subst, arith}
 use Rattle.std.proofs.lemmas.Result.{IfOk-weaker, err_from_is_err_and}
 use Rattle.mq_blocks.specs.Descriptor.{AreRising}
-use Rattle.mq_blocks.specs.Geometry.{homes_of}
+use Rattle.mq_blocks.specs.Geometry.{homes_of, write_limit}
 use Rattle.mq_blocks.specs.declared.geometry.Geometry.{Geometry}
-use Rattle.mq_files.specs.Group.{file_group}
-use Rattle.mq_files.specs.Laws.{blocks_in}
+use Rattle.mq_file_entries.specs.Group.{file_group}
+use Rattle.mq_file_entries.specs.Laws.{blocks_in}
 use Rattle.mq_journal.specs.Numbers.{HoldsSide}
 use Rattle.mq_pages.specs.declared.page.Write.{Write}
-use Rattle.mq_side.specs.Commits.{IsPlanOf}
+use Rattle.mq_queue_side.specs.Commits.{IsPlanOf}
 use Rattle.mq_turns.specs.AtDesk.{start_of, view}
 use Rattle.mq_calls.specs.Calling.{call_of}
 use Rattle.mq_calls.specs.Committing.{IsPlacedOn, IsPrepared, HasNoRoom}
@@ -30,6 +30,21 @@ place-requires-clause-rise g c =
     let r = writes-rise g.P.Port.state g.P.Port.faults (start_of c.args.desk.now) c.args.side.now.pmr.geometry c.args.asked.now.queue c.args.held.now.cells c.args.side.now (view c.args.chair.now) c.args.asked.now.requests.now c.args.done.now c.requires.at.1 c.requires.geometry c.requires.holds c.requires.done in
     subst (λ (ws : List Write). AreRising 0 (homes_of c.geometry-geometry.result) (blocks_in ws)) (sym c.deref.ensures.value)
     (subst (λ (x : Geometry). AreRising 0 (homes_of x) (blocks_in c.args.done.now.writes.items)) (sym c.geometry-geometry.ensures) r)
+
+pub place-requires-clause-few : goal.place-requires-clause-few
+place-requires-clause-few g c =
+    subst (λ (ws : List Write). length ws ≤ write_limit c.geometry-geometry.result) (sym c.deref.ensures.value)
+    (subst (λ (x : Geometry). length c.args.done.now.writes.items ≤ write_limit x) (sym c.geometry-geometry.ensures) c.requires.few)
+
+pub make_room-requires-clause-few : goal.make_room-requires-clause-few
+make_room-requires-clause-few g c =
+    let whole = c.in_ok-place.ensures.whole in
+    let same = ap length c.deref.ensures.value in
+    let few = c.requires.few in
+    omega arith
+
+pub prepare-requires-clause-few : goal.prepare-requires-clause-few
+prepare-requires-clause-few g c = subst (λ (x : Geometry). length c.args.done.now.writes.items ≤ write_limit x) (sym c.make_room.ensures.keeps.geometry) c.requires.few
 
 pub returns-in_err-place-clause-holds : goal.returns-in_err-place-clause-holds
 returns-in_err-place-clause-holds g c =

@@ -1,5 +1,5 @@
 use Rattle.std.proofs.Common.{◌≡◌, ◌∙◌, ap, rules}
-use Rattle.mq_files.specs.Plans.{IsEntryOf}
+use Rattle.mq_file_entries.specs.Plans.{IsEntryOf}
 use Rattle.mq_turns.specs.AtDesk.{start_of, view}
 use Rattle.mq_turns.specs.declared.rule.ChairView.{ChairView}
 use Rattle.mq_calls.specs.Runs.{files}

@@ -1,8 +1,8 @@
 use Rattle.std.proofs.Common.{refl, ap}
 use Rattle.std.specs.Prelude.{None, Ok, Err}
 use Rattle.mq_drive.specs.Steps.{PowerOff}
-use Rattle.mq_side.proofs.DrainedCompletes.{gains_rises}
-use Rattle.mq_side.specs.declared.answers.Cause.TheVariants.{FailedHome, Off}
+use Rattle.mq_queue_side.proofs.DrainedCompletes.{gains_rises}
+use Rattle.mq_queue_side.specs.declared.answers.Cause.TheVariants.{FailedHome, Off}
 use Rattle.mq_turns.specs.AtDesk.{view, start_of}
 use Rattle.mq_checkpoint.proofs.StepsByRoot.{below, failed, is_home, noted_root, off, refused_held, refused_root, taken_now, zone_there}
 use Rattle.mq_checkpoint.proofs.RaisedHomeSide.{error_rises}

@@ -1,10 +1,10 @@
 use Rattle.std.proofs.Common.{◌≡◌, ◌+◌, length, refl, sym, ap, subst, ◌∙◌}
 use Rattle.std.specs.Prelude.{Ok, Err}
 use Rattle.mq_journal.specs.Numbers.{HoldsSide, machine, values}
-use Rattle.mq_rules.specs.Rule.{IsSide}
-use Rattle.mq_side.proofs.DrainedCompletes.{gains_rises}
+use Rattle.mq_desk_laws.specs.Rule.{IsSide}
+use Rattle.mq_queue_side.proofs.DrainedCompletes.{gains_rises}
 use Rattle.mq_drive.specs.Steps.{PowerOff}
-use Rattle.mq_side.specs.declared.answers.Cause.TheVariants.{FailedHome, Off}
+use Rattle.mq_queue_side.specs.declared.answers.Cause.TheVariants.{FailedHome, Off}
 use Rattle.mq_turns.specs.AtDesk.{view, start_of}
 use Rattle.mq_turns.specs.Chairs.{giving}
 use Rattle.mq_turns.specs.Meaning.{charged}

@@ -7,8 +7,9 @@ use Rattle.mq_turns.specs.Meaning.{charged}
 use Rattle.mq_turns.specs.Words.{same_turn}
 use Rattle.mq_turns.specs.declared.turn.Item.TheVariants as item
 use Rattle.mq_turns.specs.declared.turn.Turn.TheVariants.{Root}
-use Rattle.mq_rules.proofs.Meaning.{laws}
-use Rattle.mq_turns.proofs.DeskSeen.{opening_seen, stands_renewed, times_renewed}
+use Rattle.mq_desk_laws.proofs.Meaning.{laws}
+use Rattle.mq_turns.proofs.DeskSeen.{opening_seen, stands_renewed}
+use Rattle.mq_turns.proofs.DeskTurns.{times_refreshed}
 use Rattle.mq_turns.proofs.DeskSlots.{turn_at_slot}
 use Rattle.mq_journal.specs.Numbers.{machine, values}
 use Rattle.mq_checkpoint.specs.Raised.{reported_root}
@@ -16,12 +17,11 @@ use Rattle.mq_checkpoint.proofs.root.report_root.Goals as goal
 
 pub give_back-requires-clause-holds : goal.give_back-requires-clause-holds
 give_back-requires-clause-holds g c =
-    let μ = machine g.P.Port.state g.P.Port.faults g.G.Groups.group in
     let o = start_of c.args.desk.now in
     let v = view c.args.chair.now in
     let noted = c.charge.ensures.noted in
     let L = charged (reported_root c.args.report) noted.0 in
-    let same = ap (λ w. times (slot_of o Root) w.held) noted.1 ∙ times_renewed μ (λ k. same_turn Root (turn_at L.opening k)) L (slot_of o Root) v.held in
+    let same = ap (λ w. times (slot_of o Root) w.held) noted.1 ∙ times_refreshed (λ k. same_turn Root (turn_at L.opening k)) L (slot_of o Root) v.held in
     let holds = c.requires.holds in
     omega arith
 

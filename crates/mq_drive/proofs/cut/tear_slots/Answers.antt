@@ -1,7 +1,7 @@
 use Rattle.std.proofs.Common.{rules, ◌≡◌, ◌≢◌, ◌+◌, ◌-◌, ◌%◌, ℕ, suc, List, [], length, get_or, sym, ◌∙◌, ap, arith}
+use Rattle.mq_blocks.specs.Limits.{depth}
 use Rattle.std.proofs.Math.ListN.{length-set}
 use Rattle.std.proofs.lemmas.List.{get_or-set_other}
-use Rattle.mq_blocks.specs.Drive.{depth}
 use Rattle.mq_drive.specs.Choices.{torn, next_slot, torn_slots}
 use Rattle.mq_drive.proofs.Choices.{slots_step}
 use Rattle.mq_drive.proofs.cut.tear_slots.Goals as goal

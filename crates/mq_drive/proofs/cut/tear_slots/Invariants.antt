@@ -1,5 +1,5 @@
 use Rattle.std.proofs.Common.{◌≡◌, ◌≢◌, ◌<◌, ◌≤◌, ◌-◌, ◌%◌, ℕ, [], length, slice_index_or}
-use Rattle.mq_blocks.specs.Drive.{depth}
+use Rattle.mq_blocks.specs.Limits.{depth}
 use Rattle.mq_drive.specs.Choices.{torn_slots}
 use Rattle.mq_drive.proofs.cut.tear_slots.Given as goal
 

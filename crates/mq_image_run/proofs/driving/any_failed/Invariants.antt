@@ -1,6 +1,6 @@
 use Rattle.std.proofs.Common.{◌≡◌, drop, ◌++◌, ◌∷◌, []}
 use Rattle.mq_image_run.specs.Drives.{has_failed}
-use Rattle.mq_images.specs.Cuts.{row_of}
+use Rattle.mq_image_ops.specs.Cuts.{row_of}
 use Rattle.mq_image_run.proofs.driving.any_failed.Given as goal
 
 -- none of those before has failed

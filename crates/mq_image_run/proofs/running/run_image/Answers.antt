@@ -1,6 +1,6 @@
 use Rattle.std.proofs.Common.{◌≡◌}
 use Rattle.std.proofs.lemmas.Result.{IfErr-weaker}
-use Rattle.mq_images.specs.declared.refusal.StandingRefusal.TheVariants.{OutOfMemory}
+use Rattle.mq_image_ops.specs.declared.refusal.StandingRefusal.TheVariants.{OutOfMemory}
 use Rattle.mq_image_run.specs.Refusals.{RefusesRun, wanting}
 use Rattle.mq_image_run.proofs.Refusals.{only-wanting}
 use Rattle.mq_image_run.proofs.running.run_image.Goals as goal

@@ -1,7 +1,7 @@
 use Rattle.std.proofs.Common.{refl, sym, subst}
 use Rattle.std.specs.Prelude.{Ok, Err}
 use Rattle.std.proofs.lemmas.Result.{on_ok_weaker}
-use Rattle.mq_rules.specs.Rule.{IsSide}
+use Rattle.mq_desk_laws.specs.Rule.{IsSide}
 use Rattle.mq_turns.specs.AtDesk.{view, start_of}
 use Rattle.mq_turns.specs.Marks.{claim_of}
 use Rattle.mq_turns.specs.Meaning.{charged, claimed, newest}

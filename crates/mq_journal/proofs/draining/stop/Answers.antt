@@ -1,6 +1,6 @@
 use Rattle.std.proofs.Common.{◌<◌, sym, ap, subst, ◌∙◌}
 use Rattle.std.specs.Prelude.{Some}
-use Rattle.mq_rules.specs.Rule.{IsSide}
+use Rattle.mq_desk_laws.specs.Rule.{IsSide}
 use Rattle.mq_turns.specs.Meaning.{charged}
 use Rattle.mq_journal.specs.Numbers.{reported, values}
 use Rattle.mq_turns.specs.AtDesk.{view, start_of}

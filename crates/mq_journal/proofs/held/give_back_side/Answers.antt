@@ -1,5 +1,5 @@
 use Rattle.std.proofs.Common.{◌+◌, ◌<◌, length, sym, subst, ◌∙◌}
-use Rattle.mq_rules.specs.Rule.{IsSide}
+use Rattle.mq_desk_laws.specs.Rule.{IsSide}
 use Rattle.mq_turns.specs.AtDesk.{view, start_of}
 use Rattle.mq_turns.specs.Chairs.{giving}
 use Rattle.mq_turns.specs.Lists.{times}

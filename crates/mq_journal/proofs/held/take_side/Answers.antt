@@ -1,5 +1,5 @@
 use Rattle.std.proofs.Common.{sym, ap, subst, ◌∙◌}
-use Rattle.mq_rules.specs.Rule.{shape_of}
+use Rattle.mq_desk_laws.specs.Rule.{shape_of}
 use Rattle.mq_turns.specs.AtDesk.{view, start_of}
 use Rattle.mq_turns.specs.Desk.{Sees, slot_of}
 use Rattle.mq_turns.specs.declared.turn.Turn.TheVariants.{Side}

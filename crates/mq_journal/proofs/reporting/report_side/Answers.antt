@@ -1,8 +1,8 @@
 use Rattle.std.proofs.Common.{◌≡◌, ℕ, ◌+◌, ◌<◌, true, length, sym, refl, ap, subst, ◌∙◌, arith}
 use Rattle.std.proofs.lemmas.Bool.{eq-eqb}
-use Rattle.mq_rules.specs.Rule.{IsSide}
-use Rattle.mq_rules.proofs.RuleTelling.{ok_charged}
-use Rattle.mq_rules.proofs.Meaning.{laws}
+use Rattle.mq_desk_laws.specs.Rule.{IsSide}
+use Rattle.mq_desk_laws.proofs.RuleTelling.{ok_charged}
+use Rattle.mq_desk_laws.proofs.Meaning.{laws}
 use Rattle.mq_turns.specs.AtDesk.{view, start_of}
 use Rattle.mq_turns.specs.Chairs.{giving}
 use Rattle.mq_turns.specs.Desk.{slot_of, turn_at}
@@ -12,7 +12,8 @@ use Rattle.mq_turns.specs.Words.{after_notice, same_turn}
 use Rattle.mq_turns.specs.declared.rule.Notice.TheVariants as notice
 use Rattle.mq_turns.specs.declared.turn.Item.TheVariants as item
 use Rattle.mq_turns.specs.declared.turn.Turn.TheVariants.{Root, Side}
-use Rattle.mq_turns.proofs.DeskSeen.{opening_seen, stands_renewed, times_renewed}
+use Rattle.mq_turns.proofs.DeskSeen.{opening_seen, stands_renewed}
+use Rattle.mq_turns.proofs.DeskTurns.{times_refreshed}
 use Rattle.mq_turns.proofs.DeskSlots.{turn_at_slot}
 use Rattle.mq_journal.specs.Numbers.{Start, machine, reported, values}
 use Rattle.mq_journal.proofs.reporting.report_side.Goals as goal
@@ -37,14 +38,13 @@ charge-requires-clause-may g c = λ K sees.
 
 pub give_back-requires-clause-holds : goal.give_back-requires-clause-holds
 give_back-requires-clause-holds g c =
-    let μ = machine g.P.Port.state g.P.Port.faults g.G.Groups.group in
     let o = start_of c.args.desk.now in
     let q = c.args.side.pmr.queue in
     let v = view c.args.chair.now in
     let noted = c.charge.ensures.noted in
     let qr = c.queue-queue.result in
     let L = charged (reported qr c.args.report) noted.0 in
-    let same = ap (λ w. times (slot_of o (Side q)) w.held) noted.1 ∙ times_renewed μ (λ k. same_turn (Side qr) (turn_at L.opening k)) L (slot_of o (Side q)) v.held in
+    let same = ap (λ w. times (slot_of o (Side q)) w.held) noted.1 ∙ times_refreshed (λ k. same_turn (Side qr) (turn_at L.opening k)) L (slot_of o (Side q)) v.held in
     let holds = c.requires.holds in
     let there : 0 < times (slot_of o (Side q)) (view c.charge.new.chair).held = omega arith in
     subst (λ z. 0 < times (length o.pages + z) (view c.charge.new.chair).held) (sym c.queue-queue.ensures) there

@@ -1,6 +1,6 @@
 use Rattle.std.proofs.Common.{ℕ, ◌<◌, sym, subst}
-use Rattle.mq_rules.specs.Rule.{IsSide}
-use Rattle.mq_side.specs.Commits.{items_of}
+use Rattle.mq_desk_laws.specs.Rule.{IsSide}
+use Rattle.mq_queue_side.specs.Commits.{items_of}
 use Rattle.mq_turns.specs.AtDesk.{view, start_of}
 use Rattle.mq_turns.specs.Desk.{slot_of}
 use Rattle.mq_turns.specs.Meaning.{charged}

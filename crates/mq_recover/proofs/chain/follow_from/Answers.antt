@@ -25,7 +25,7 @@ loop-number-preserved g c =
     let place_is : d.prev_place ≡ c.next.inside.prev_place = ap (λ (x : Descriptor). x.prev_place) (sym c.next.view_is) in
     let newest_is : unwrap_or c.loop-number.newest d.place ≡ c.unwrap_or.result =
     ap (λ (x : Descriptor). unwrap_or c.loop-number.newest x.place) (sym c.next.view_is) ∙ sym c.unwrap_or.ensures in
-    let good = c.in_ok-next.ensures.ok.0.good in
+    let good = c.in_ok-next.ensures.ok.0.is.good in
     let falls = good.falls in
     let high = good.number in
     record {

@@ -1,7 +1,7 @@
 use Rattle.std.proofs.Common.{◌≡◌, ◌%◌, [], refl, sym, ◌∙◌, ap}
 use Rattle.std.specs.Prelude.{slice_index_or}
-use Rattle.mq_blocks.specs.Drive.{depth}
 use Rattle.mq_blocks.proofs.DriveQuiescent.{quiet-flushed}
+use Rattle.mq_blocks.specs.Limits.{depth}
 use Rattle.mq_nvme.specs.Entry.{refusal_of}
 use Rattle.mq_nvme.specs.Says.{says}
 use Rattle.mq_nvme.proofs.Says.{says-of}

@@ -1,5 +1,5 @@
 use Rattle.std.proofs.Common.{◌≡◌, drop, length}
-use Rattle.mq_recover.specs.Recover.{forgotten}
+use Rattle.mq_recover.specs.Copies.{forgotten}
 use Rattle.mq_recover.proofs.copies.forget.Given as goal
 
 -- what is left leads to the same copies

@@ -1,6 +1,6 @@
 use Rattle.std.proofs.Common.{◌≡◌, length, get_or, Some, ◌∙◌, arith}
 use Rattle.std.proofs.Math.ListN.{length-set}
-use Rattle.mq_recover.specs.Recover.{copy_place_at}
+use Rattle.mq_recover.specs.Copies.{copy_place_at}
 use Rattle.mq_recover.proofs.RecoverCopies.{rising-at, noted-next}
 use Rattle.mq_recover.proofs.copies.note.Goals as goal
 

@@ -1,5 +1,5 @@
 use Rattle.std.proofs.Common.{◌≡◌, ◌+◌, drop, length}
-use Rattle.mq_recover.specs.Recover.{noted}
+use Rattle.mq_recover.specs.Copies.{noted}
 use Rattle.mq_recover.proofs.copies.note.Given as goal
 
 -- what is left leads to the same copies

@@ -1,7 +1,7 @@
 use Rattle.std.proofs.Common.{◌∙◌}
 use Rattle.std.proofs.lemmas.Result.{err_from_is_err_and}
 use Rattle.mq_recover.specs.Drives.{DriveState, states}
-use Rattle.mq_recover.specs.Steps.{home_events, StopsAt}
+use Rattle.mq_recover.specs.Events.{home_events, StopsAt}
 use Rattle.mq_recover.proofs.StepsEvents.{IsNext, next-home, next-cut}
 use Rattle.mq_recover.proofs.homes.write_homes.Goals as goal
 

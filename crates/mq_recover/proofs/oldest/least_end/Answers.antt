@@ -1,5 +1,6 @@
 use Rattle.std.proofs.Common.{◌≡◌, ◌+◌, Option, MatchOption, sym, ◌∙◌, subst}
-use Rattle.mq_recover.specs.Ends.{chain_at, AreEmpty, IsLeast, EndsWith}
+use Rattle.mq_recover.specs.Recover.{chain_at}
+use Rattle.mq_recover.specs.Ends.{AreEmpty, IsLeast, EndsWith}
 use Rattle.mq_recover.specs.declared.oldest.Least.{Least}
 use Rattle.mq_recover.proofs.Ends.{read-chain, read-end, read-empty, first-end, skip-empty}
 use Rattle.mq_recover.proofs.oldest.least_end.Goals as goal

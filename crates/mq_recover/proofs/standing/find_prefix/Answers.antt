@@ -1,6 +1,6 @@
 use Rattle.std.proofs.lemmas.Result.{err_from_is_err_and}
 use Rattle.mq_recover.specs.Drives.{states}
-use Rattle.mq_recover.specs.declared.plan.Recovered.{Recovered}
+use Rattle.mq_recover.specs.declared.choice.Recovered.{Recovered}
 use Rattle.mq_recover.proofs.DrivesImages.{err-exact, memory-alone, image-refused, read-readable}
 use Rattle.mq_recover.proofs.standing.find_prefix.Goals as goal
 

@@ -1,20 +1,17 @@
-use Rattle.std.proofs.Common.{◌≡◌, ◌∙◌, List, Option, None, get_or, length, ap, refl}
+use Rattle.std.proofs.Common.{refl, sym, subst}
 use Rattle.std.proofs.lemmas.Result.{err_from_is_err_and}
 use Rattle.mq_blocks.proofs.DriveQuiescent.{base-of}
 use Rattle.mq_recover.specs.Drives.{states}
-use Rattle.mq_recover.specs.Standing.{newest_of}
-use Rattle.mq_recover.specs.declared.copies.CopyPlace.{CopyPlace}
+use Rattle.mq_recover.specs.Copies.{AreCopies}
 use Rattle.mq_recover.specs.declared.standing.Standing.{Standing}
 use Rattle.mq_recover.proofs.DrivesImages.{err-exact, memory-alone, image-refused, read-readable}
-use Rattle.mq_recover.proofs.Plans.{found-within}
 use Rattle.mq_recover.proofs.StandingBlocks.{standing-of}
 use Rattle.mq_recover.proofs.standing.stands.Goals as goal
 
-pub read_blocks-requires-clause-homes : goal.read_blocks-requires-clause-homes
-read_blocks-requires-clause-homes g c = ap length c.deref.ensures.value ∙ c.in_ok-found.ensures.ok.whole
-
-pub read_blocks-requires-clause-own : goal.read_blocks-requires-clause-own
-read_blocks-requires-clause-own g c = found-within c.args.geometry (states g.P.Port.state c.args.ports.now.queues.items c.args.ports.now.root) c.in_ok-found.found c.deref.result.now c.in_ok-found.ensures.ok c.deref.ensures.value
+pub read_blocks-requires-clause-copies : goal.read_blocks-requires-clause-copies
+read_blocks-requires-clause-copies g c =
+    let is = c.in_ok-found.ensures.ok in
+    (is.ds, subst (AreCopies c.args.geometry is.ds) (sym c.deref.ensures.value) is.copies_are)
 
 pub returns-in_err-found-clause-exact : goal.returns-in_err-found-clause-exact
 returns-in_err-found-clause-exact g c e refuses =
@@ -29,9 +26,8 @@ returns-in_err-found-clause-complete g c image =
 pub returns-clause-ok : goal.returns-clause-ok
 returns-clause-ok g c =
     let d = states g.P.Port.state c.args.ports.now.queues.items c.args.ports.now.root in
-    let is : c.deref.result.now ≡ c.in_ok-found.found.places.items = c.deref.ensures.value in
-    standing-of c.args.geometry d c.in_ok-found.found _ c.in_ok-found.ensures.ok c.in_ok-blocks.ensures.0
-    (λ b below. c.in_ok-blocks.ensures.1 b below ∙ ap (λ (l : List (Option CopyPlace)). newest_of c.args.geometry d (get_or l b None) b) is)
+    let is = c.in_ok-found.ensures.ok in
+    standing-of c.args.geometry d c.in_ok-found.found _ is (c.in_ok-blocks.ensures is.ds (subst (AreCopies c.args.geometry is.ds) (sym c.deref.ensures.value) is.copies_are))
     refl (base-of c.base.result d.root c.requires.root.quiet c.base.ensures) refl
 
 pub returns-clause-exact : goal.returns-clause-exact

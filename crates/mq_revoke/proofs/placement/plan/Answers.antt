@@ -3,6 +3,7 @@ use Rattle.std.specs.Prelude.{vec_len}
 use Rattle.std.proofs.lemmas.Bool.{false≢true}
 use Rattle.std.proofs.lemmas.List.{length-map, take_all}
 use Rattle.mq_blocks.specs.Geometry.{homes_of}
+use Rattle.mq_blocks.proofs.DescriptorLimits.{limit-high}
 use Rattle.mq_blocks.proofs.DescriptorRising.{rising-few}
 use Rattle.mq_revoke.specs.Placing.{IsDirect}
 use Rattle.mq_revoke.proofs.Placing.{in_range, short, after_logged, after_direct, after_revoked, so_far-placement, so_far-length}
@@ -20,18 +21,21 @@ is_direct-requires c = (in_range 0 (homes_of c.args.geometry) c.args.writes.now 
 
 pub add-requires : goal.add-requires
 add-requires c =
+    let most = limit-high c.args.geometry in
     let lists = short c.args.geometry c.args.queue c.args.front c.args.base c.args.writes.now c.loop-write.write-index c.write-item.result c.loop-write-test.true c.write-item.is _ _ _ c.loop-write.invariant.lists in
     let len : vec_len c.loop-write.into-inside.direct ≡ length c.loop-write.into-inside.direct.items = search rules in
     omega (arith, len, lists.1, c.loop-write.invariant.reserved.in_direct)
 
 pub add-requires-then-is_copied : goal.add-requires-then-is_copied
 add-requires-then-is_copied c =
+    let most = limit-high c.args.geometry in
     let lists = short c.args.geometry c.args.queue c.args.front c.args.base c.args.writes.now c.loop-write.write-index c.write-item.result c.loop-write-test.true c.write-item.is _ _ _ c.loop-write.invariant.lists in
     let len : vec_len c.loop-write.into-inside.revoked ≡ length c.loop-write.into-inside.revoked.items = search rules in
     omega (arith, len, lists.2, c.loop-write.invariant.reserved.in_revoked)
 
 pub add-requires-else-is_direct : goal.add-requires-else-is_direct
 add-requires-else-is_direct c =
+    let most = limit-high c.args.geometry in
     let lists = short c.args.geometry c.args.queue c.args.front c.args.base c.args.writes.now c.loop-write.write-index c.write-item.result c.loop-write-test.true c.write-item.is _ _ _ c.loop-write.invariant.lists in
     let len : vec_len c.loop-write.into-inside.logged ≡ length c.loop-write.into-inside.logged.items = search rules in
     omega (arith, len, lists.0, c.loop-write.invariant.reserved.in_logged)

@@ -1,7 +1,7 @@
 use Rattle.std.proofs.Common.{◌≡◌, length, drop, ap, map, sym, subst, ◌∙◌, arith}
 use Rattle.std.proofs.lemmas.List.{take_at}
 use Rattle.mq_calls.specs.Sessions.{IsReady}
-use Rattle.mq_files.specs.Group.{file_group}
+use Rattle.mq_file_entries.specs.Group.{file_group}
 use Rattle.mq_tie.specs.Closed.{HasRun}
 use Rattle.mq_turns.specs.AtDesk.{AtDesk, start_of, view}
 use Rattle.mq_run.proofs.LinesGrowing.{map_twice}

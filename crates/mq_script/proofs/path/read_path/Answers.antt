@@ -1,9 +1,9 @@
 use Rattle.std.proofs.Common.{ℕ, List, [], ◌∷◌, ◌++◌, Bor, get_or, map, ap, ◌∙◌, sym}
 use Rattle.std.specs.Option.{ok_or}
 use Rattle.std.proofs.lemmas.List.{take_all}
-use Rattle.mq_text.proofs.TextLines.{map_take_more}
+use Rattle.mq_block_text.proofs.TextLines.{map_take_more}
 use Rattle.mq_script.specs.declared.refusal.ScriptCause.TheVariants.{Path as not_a_path}
-use Rattle.mq_text.proofs.TextWhole.{some_byte}
+use Rattle.mq_block_text.proofs.TextWhole.{some_byte}
 use Rattle.mq_script.proofs.WordsPaths.{after_some, path_some}
 use Rattle.mq_script.proofs.path.read_path.Goals as goal
 

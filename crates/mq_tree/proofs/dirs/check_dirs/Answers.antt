@@ -1,6 +1,7 @@
+use Rattle.mq_tree.specs.Parts.{AreDirBlocks, HasBadBlock}
 use Rattle.mq_tree.specs.declared.corrupt.CorruptCause.TheVariants.{Layout}
-use Rattle.mq_tree.proofs.DecodedMounting.{inode-form, inode-low, inode-seen, inodes-end, refuses-at}
-use Rattle.mq_tree.proofs.Parts.{dir-found, dirs-more}
+use Rattle.mq_tree.proofs.DecodedMounting.{each-more, each-refuses, inode-form, inodes-end}
+use Rattle.mq_tree.proofs.Parts.{dir-found}
 use Rattle.mq_tree.proofs.dirs.check_dirs.Goals as goal
 
 pub bad_block-requires-clause-form : goal.bad_block-requires-clause-form
@@ -8,10 +9,10 @@ bad_block-requires-clause-form c = inode-form c.args.geometry c.args.blocks.now 
 
 pub returns-in-Some-clause-cause : goal.returns-in-Some-clause-cause
 returns-in-Some-clause-cause c =
-    refuses-at _ _ Layout _ _ c.corrupt.ensures (dir-found c.args.geometry c.args.blocks.now c.loop-i.i c.in-Some.b _ c.requires.pointers (inode-seen _ _ c.args.inodes.now c.loop-i.i _ c.requires.inodes c.loop-i-test.true) (inode-low c.args.geometry c.args.blocks.now c.args.inodes.now c.loop-i.i c.requires.inodes c.loop-i-test.true) c.in-Some.ensures)
+    each-refuses (λ n. HasBadBlock c.args.blocks.now n c.in-Some.b) c.args.geometry c.args.blocks.now c.args.inodes.now c.loop-i.i _ Layout c.in-Some.b _ (λ i low h. dir-found c.args.geometry c.args.blocks.now i c.in-Some.b c.requires.pointers low h) c.requires.inodes c.loop-i-test.true c.corrupt.ensures c.in-Some.ensures
 
 pub loop-i-preserved : goal.loop-i-preserved
-loop-i-preserved c = dirs-more c.args.geometry c.args.blocks.now c.loop-i.i _ c.loop-i.invariant (inode-seen _ _ c.args.inodes.now c.loop-i.i _ c.requires.inodes c.loop-i-test.true) c.in_default.ensures
+loop-i-preserved c = each-more (λ n. AreDirBlocks c.args.blocks.now n) c.args.geometry c.args.blocks.now c.args.inodes.now c.loop-i.i _ c.requires.inodes c.loop-i-test.true c.loop-i.invariant c.in_default.ensures
 
 pub returns-clause-ok : goal.returns-clause-ok
 returns-clause-ok c i place low dir = c.loop-i.invariant i (inodes-end c.args.geometry c.args.blocks.now c.args.inodes.now c.loop-i.i i c.requires.inodes c.loop-i-test.false low) dir place

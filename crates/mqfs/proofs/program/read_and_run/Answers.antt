@@ -1,7 +1,7 @@
 use Rattle.std.proofs.Common.{map, refl}
 use Rattle.std.specs.String.{string_bytes}
-use Rattle.mq_ending.specs.Ending.{memory_line}
-use Rattle.mq_words.specs.Asked.{asked}
+use Rattle.mq_command_io.specs.Ending.{memory_line}
+use Rattle.mq_cli.specs.Asked.{asked}
 use Rattle.mqfs.specs.Program.{no_command, no_memory, of_command, usage_line}
 use Rattle.mqfs.proofs.ProgramEndings.{decided_told, runs_told, unknown_asks}
 use Rattle.mqfs.proofs.program.read_and_run.Goals as goal

@@ -1,6 +1,6 @@
 use Rattle.std.proofs.Common.{List, ℕ, Bor, map, refl, sym, subst}
-use Rattle.mq_run_command.specs.RunsScripts.{Runs}
-use Rattle.mq_words.specs.Help.{help_text, version_line}
+use Rattle.mq_command_run.specs.RunsScripts.{Runs}
+use Rattle.mq_cli.specs.Help.{help_text, version_line}
 use Rattle.mqfs.specs.Decided.{IsRunnable, RunDecides}
 use Rattle.mqfs.specs.Says.{run_options, said}
 use Rattle.mqfs.proofs.program.run.Goals as goal
@@ -30,22 +30,22 @@ pub returns-in-Run-clause-ends : goal.returns-in-Run-clause-ends
 returns-in-Run-clause-ends g c =
     let files = g.F.Files.state in
     let sink = g.K.Sink.state in
-    let ends = c.run_scripts.ensures.ends in
+    let ends = c.run_script_files.ensures.ends in
     rw c.in-Run.is (
       ends.0,
       ends.1,
-      subst (λ (l : List (Bor (List ℕ))). Runs (run_options c.in-Run.options) c.in-Run.image.now (map (λ s. s.now) l) (files c.args.files.now) (files c.run_scripts.new.files) ends.0 ends.1) c.deref.ensures.value ends.2,
+      subst (λ (l : List (Bor (List ℕ))). Runs (run_options c.in-Run.options) c.in-Run.image.now (map (λ s. s.now) l) (files c.args.files.now) (files c.run_script_files.new.files) ends.0 ends.1) c.deref.ensures.value ends.2,
       ends.3,
     )
 
 pub returns-in-Run-clause-decided : goal.returns-in-Run-clause-decided
 returns-in-Run-clause-decided g c =
     rw c.in-Run.is (λ status decides.
-    c.run_scripts.ensures.decided status
+    c.run_script_files.ensures.decided status
     (subst (λ (l : List (Bor (List ℕ))). RunDecides c.in-Run.image.now (map (λ s. s.now) l) c.in-Run.options (g.F.Files.state c.args.files.now).contents status) (sym c.deref.ensures.value) decides))
 
 pub returns-in-Run-clause-runs : goal.returns-in-Run-clause-runs
 returns-in-Run-clause-runs g c =
     rw c.in-Run.is (λ runs.
-    c.run_scripts.ensures.runs
+    c.run_script_files.ensures.runs
     (subst (λ (l : List (Bor (List ℕ))). IsRunnable c.in-Run.image.now (map (λ s. s.now) l) (g.F.Files.state c.args.files.now).contents) (sym c.deref.ensures.value) runs))

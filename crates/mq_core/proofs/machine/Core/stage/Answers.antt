@@ -64,7 +64,7 @@ staged c =
     let s : IsStaged l.geometry q (item_at from txs c.staged_end-count.result) c.in_ok-entry.field-0 = c.in_ok-entry.ensures in
     let count : c.staged_end-count.result ≡ staged_end c.index_mut.result.now = c.staged_end-count.ensures ∙ ap staged_end (is_port (goal.at.After-index_mut c).After-index ∙ sym (is_changed c)) in
     (λ i. after_stage c.index_mut.result.now (s.entry i) (s.tx i) (s.lba i) (s.block i))
-    ∙ ap (λ n. staged_with plain.entry l.geometry q (item_at from txs n) c.index_mut.result.now) count
+    ∙ ap (λ n. staged_with plain l.geometry q (item_at from txs n) c.index_mut.result.now) count
 
 may : (c : After-index_mut) → staged_end (port_at c.self.inside.ports.items c.args.queue) < end_of (from_at c.self.inside.ledger.starts c.args.queue) (of_queue c.args.queue c.self.inside.ledger.history)
 may c = (let is = ap staged_end (is_port (goal.at.After-index_mut c).After-index) in omega (arith, c.staged_end-count.ensures, c.end.ensures.is, is, c.if-count-end.false))

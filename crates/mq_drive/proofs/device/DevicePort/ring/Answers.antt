@@ -2,7 +2,8 @@ use Rattle.mq_drive.proofs.Sound.{counts_event}
 use Rattle.std.proofs.Common.{rules, ◌≡◌, ◌<◌, ◌≤◌, ◌+◌, ◌-◌, ℕ, suc, List, [], ◌∷◌, length, All, sym, ap, subst, arith}
 use Rattle.std.proofs.lemmas.List.Elements.{All-append}
 use Rattle.std.specs.VecDeque.{deque_len, deque_capacity}
-use Rattle.mq_blocks.specs.Drive.{AreCounted, usable_depth}
+use Rattle.mq_blocks.specs.Drive.{AreCounted}
+use Rattle.mq_blocks.specs.Limits.{usable_depth}
 use Rattle.mq_blocks.specs.declared.command.Command.{Command}
 use Rattle.mq_drive.specs.declared.device.Device.{Device}
 use Rattle.mq_drive.specs.Slots.{AreSettled, index_in}

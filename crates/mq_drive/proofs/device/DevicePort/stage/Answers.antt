@@ -3,7 +3,8 @@ use Rattle.std.proofs.Common.{rules, ◌≡◌, ◌<◌, ◌≤◌, ◌+◌, ◌
 use Rattle.std.proofs.lemmas.List.Elements.{All-append, All-cons}
 use Rattle.mq_nvme.specs.Entry.{lba_of}
 use Rattle.mq_nvme.proofs.EntryRequests.{lba_of-entry}
-use Rattle.mq_blocks.specs.Drive.{AreCounted, depth}
+use Rattle.mq_blocks.specs.Drive.{AreCounted}
+use Rattle.mq_blocks.specs.Limits.{depth}
 use Rattle.mq_blocks.specs.declared.command.Command.{Command}
 use Rattle.mq_drive.specs.declared.device.Device.{Device}
 use Rattle.mq_drive.specs.Slots.{AreSettled, index_in}

@@ -1,5 +1,5 @@
 use Rattle.mq_journal.specs.Values.{side_values}
-use Rattle.mq_rules.proofs.Meaning.{laws}
+use Rattle.mq_desk_laws.proofs.Meaning.{laws}
 use Rattle.mq_journal.proofs.machine.JournalMachineMachine.obeys.Goals as goal
 
 pub returns : goal.returns

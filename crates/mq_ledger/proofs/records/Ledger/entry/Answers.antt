@@ -2,6 +2,7 @@ use Rattle.std.proofs.Common.{◌≡◌, length, reverse, subst, sym, ap, refl, 
 use Rattle.std.proofs.lemmas.Result.{IfOk-weaker}
 use Rattle.mq_blocks.specs.declared.geometry.Geometry.{Geometry}
 use Rattle.mq_ledger.specs.History.{writes, IsAt}
+use Rattle.mq_ledger.specs.Items.{further_blocks}
 use Rattle.mq_ledger.specs.KnownJournal.{IsTx}
 use Rattle.mq_ledger.specs.Records.{Ledger}
 use Rattle.mq_ledger.specs.declared.queue_rows.Row.{Row}
@@ -49,6 +50,7 @@ stage_entry-requires-clause-places c =
     let history : reverse c.deref.result.now ≡ s.history = ap reverse c.deref.ensures.value ∙ ap (λ (v : Ledger). v.history) c.self.view_is in
     let tx = c.numbered-tx.ensures e.t e.ts (subst (IsAt e.t e.ts) (sym history) e.at) (sym (c.number_at-number.ensures e.t e.txs e.inside (sym (c.ended-at.ensures.is ∙ e.size)))) in
     let logged = ap (λ (t : Tx). length t.logged) tx in
+    let blocks = ap further_blocks tx in
     let row = ap (λ (r : Row). r.next) (c.row_at-before.ensures e.txs e.part (sym (c.ended-at.ensures.is ∙ e.size))) in
     let most = (tables_now c.self.inside s c.self.view_is c.self.invariant).places c.args.queue c.requires.queue in
     let place = e.place in
@@ -61,6 +63,7 @@ stage_entry-requires-clause-index c =
     let history : reverse c.deref.result.now ≡ s.history = ap reverse c.deref.ensures.value ∙ ap (λ (v : Ledger). v.history) c.self.view_is in
     let tx = c.numbered-tx.ensures e.t e.ts (subst (IsAt e.t e.ts) (sym history) e.at) (sym (c.number_at-number.ensures e.t e.txs e.inside (sym (c.ended-at.ensures.is ∙ e.size)))) in
     let many = ap writes tx in
+    let blocks = ap further_blocks tx in
     let row = ap (λ (r : Row). r.end) (c.row_at-before.ensures e.txs e.part (sym (c.ended-at.ensures.is ∙ e.size))) in
     let high = e.high in
     omega arith

@@ -1,6 +1,7 @@
 use Rattle.std.proofs.Common.{◌≡◌, ◌<◌, ℕ, ◌+◌, ◌%◌, List, Option, Some, None, sym, ◌∙◌, ap, subst, arith}
 use Rattle.std.specs.Prelude.{if◌then◌else◌}
-use Rattle.mq_blocks.specs.Drive.{PortState, staged_end, after_stage, depth, usable_depth}
+use Rattle.mq_blocks.specs.Drive.{PortState, staged_end, after_stage}
+use Rattle.mq_blocks.specs.Limits.{depth, usable_depth}
 use Rattle.mq_nvme.specs.Entry.{entry_of, tx_of, lba_of}
 use Rattle.mq_nvme.specs.declared.write.WriteReq.{WriteReq}
 use Rattle.mq_nvme.proofs.EntryRequests.{tx_of-entry, lba_of-entry}

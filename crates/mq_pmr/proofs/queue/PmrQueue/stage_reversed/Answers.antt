@@ -2,7 +2,8 @@ use Rattle.std.proofs.Common.{◌≡◌, ◌≢◌, ◌<◌, ◌≤◌, ℕ, suc
 use Rattle.std.proofs.lemmas.List.{length-reverse, get_or-set_other}
 use Rattle.std.proofs.lemmas.Result.{err_from_is_err_and}
 use Rattle.std.specs.Prelude.{◌==◌, if◌then◌else◌}
-use Rattle.mq_blocks.specs.Drive.{PortState, staged_end, depth, usable_depth}
+use Rattle.mq_blocks.specs.Drive.{PortState, staged_end}
+use Rattle.mq_blocks.specs.Limits.{depth, usable_depth}
 use Rattle.mq_nvme.specs.Entry.{entry_of}
 use Rattle.mq_pmr.specs.Runs.{Items, after_some, is_last, entry_at, OwnsAll}
 use Rattle.mq_pmr.specs.Queue.{Kept}

@@ -1,5 +1,6 @@
 use Rattle.std.proofs.Common.{◌≡◌, ◌≤◌, ◌<◌, ℕ, ◌+◌, ◌-◌, ◌%◌, [], length, Some, None, reverse, slice_index_or, if◌then◌else◌}
-use Rattle.mq_blocks.specs.Drive.{PortState, staged_end, depth}
+use Rattle.mq_blocks.specs.Drive.{PortState, staged_end}
+use Rattle.mq_blocks.specs.Limits.{depth}
 use Rattle.mq_pmr.specs.Ring.{AreOf}
 use Rattle.mq_pmr.specs.Runs.{OwnsAll, after_some, is_last}
 use Rattle.mq_pmr.proofs.Runs.{PortStays}

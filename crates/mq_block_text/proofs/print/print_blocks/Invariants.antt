@@ -1,0 +1,7 @@
+use Rattle.std.proofs.Common.{◌≡◌, ◌++◌, drop}
+use Rattle.mq_block_text.specs.Text.{live_text, printed}
+use Rattle.mq_block_text.proofs.print.print_blocks.Given as goal
+
+-- what is printed, and the lines of the blocks that are left, are all
+abbrev pub invariant-loop-block : goal.invariant-loop-block
+invariant-loop-block l = l.out.items ++ live_text (drop l.block-index l.live) ≡ printed l.prefix l.live

@@ -1,0 +1,288 @@
+// What words ask.
+ghost use Rattle.std.specs.Prelude.{◌≡◌, ◌≤◌, ◌<◌, ◌⊎◌, None, Some, IfOk, IfSome, MatchResult, length, map, option_map};
+ghost use Rattle.std.specs.String.{string_bytes};
+ghost use Rattle.clap.specs.Words.{all_of, first_of, found_of, rows_of};
+ghost use Rattle.mq_cli.specs.Asked.{HasScript, HasSmallNumbers, NamesCommand, Words, asked, asked_after, asked_by, asked_of, failing_option, found_in, number_end, number_from, number_option, some_words, word_in};
+ghost use Rattle.mq_cli.specs.declared.verb.Verb.TheVariants as verb;
+
+use crate::command::{BlocksOptions, Command, FailingCommand, RunFlags};
+use crate::help::asks_help;
+use crate::numbers::{
+    GROUPS_END, NUMBER_END, THREADS_END, geometry_word, number_in_bounds, optional_command,
+    optional_number,
+};
+use crate::parse::parse;
+use crate::path::path_of;
+use crate::refusal::WordsRefusal;
+use crate::verb::{Verb, read_verb};
+use clap::ArgMatches;
+use std::alloc::Global;
+
+// The value of a name or an option, where one was found.
+fn found<'a>(matches: &ArgMatches<'a>, id: &str) -> Option<&'a str>
+    ensures { option_map (λ s. s.now) result ≡ first_of id.now (rows_of (found_of matches.now)) }
+{
+    matches.get_str(id)
+}
+
+// A name that was found.
+fn name<'a>(matches: &ArgMatches<'a>, id: &str) -> Result<&'a str, WordsRefusal>
+    ensures { MatchResult result (λ s. first_of id.now (rows_of (found_of matches.now)) ≡ Some s.now)
+        (λ e. (e ≡ WordsRefusal.Unknown) × (first_of id.now (rows_of (found_of matches.now)) ≡ None)) }
+{
+    match found(matches, id) {
+        Some(word) => Ok(word),
+        None => Err(WordsRefusal::Unknown),
+    }
+}
+
+// The number of an option.
+fn number(matches: &ArgMatches, id: &str) -> Result<Option<u64>, WordsRefusal>
+    ensures small { IfOk result (λ o. IfSome o (λ n. n < number_end)) }
+    ensures reads { MatchResult result
+        (λ n. number_option (first_of id.now (rows_of (found_of matches.now))) ≡ Some n)
+        (λ e. (e ≡ WordsRefusal.Unknown)
+        × (number_option (first_of id.now (rows_of (found_of matches.now))) ≡ None)) }
+{
+    optional_number(found(matches, id))
+}
+
+// The command of a port that an option names.
+fn failing(matches: &ArgMatches, id: &str) -> Result<Option<FailingCommand>, WordsRefusal>
+    ensures small { IfOk result (λ o. IfSome o NamesCommand) }
+    ensures reads { MatchResult result
+        (λ f. failing_option (first_of id.now (rows_of (found_of matches.now))) ≡ Some f)
+        (λ e. (e ≡ WordsRefusal.Unknown)
+        × (failing_option (first_of id.now (rows_of (found_of matches.now))) ≡ None)) }
+{
+    optional_command(found(matches, id))
+}
+
+// A number of a geometry.
+fn word(matches: &ArgMatches, id: &str) -> Result<u32, WordsRefusal>
+    ensures { MatchResult result (λ n. word_in (first_of id.now (rows_of (found_of matches.now))) ≡ Some n)
+        (λ e. (e ≡ WordsRefusal.Unknown)
+        × (word_in (first_of id.now (rows_of (found_of matches.now))) ≡ None)) }
+{
+    geometry_word(found(matches, id))
+}
+
+// A number that has to be in these bounds: not below the least, and below the limit.
+fn bounded(matches: &ArgMatches, id: &str, least: u64, limit: u64) -> Result<u64, WordsRefusal>
+    ensures small { IfOk result (λ n. (least ≤ n) × (n < limit)) }
+    ensures reads { MatchResult result
+        (λ n. number_from least limit (first_of id.now (rows_of (found_of matches.now))) ≡ Some n)
+        (λ e. (e ≡ WordsRefusal.Unknown)
+        × (number_from least limit (first_of id.now (rows_of (found_of matches.now))) ≡ None)) }
+{
+    number_in_bounds(least, limit, found(matches, id))
+}
+
+// The words of a name, of which there is at least one.
+fn words_of<'a>(
+    alloc: Global,
+    matches: &ArgMatches<'a>,
+    id: &str,
+) -> Result<Vec<&'a str>, WordsRefusal>
+    ensures some { IfOk result (λ v. 1 ≤ length v.items) }
+    ensures reads { MatchResult result
+        (λ v. some_words (all_of id.now (rows_of (found_of matches.now))) ≡ Some (map (λ s. s.now) v.items))
+        (λ e. (e ≡ WordsRefusal.OutOfMemory) ⊎ ((e ≡ WordsRefusal.Unknown)
+        × (some_words (all_of id.now (rows_of (found_of matches.now))) ≡ None))) }
+{
+    let Some(words) = matches.get_strs(id) else {
+        return Err(WordsRefusal::Unknown);
+    };
+    if words.is_empty() {
+        return Err(WordsRefusal::Unknown);
+    }
+    Ok(words.to_vec(alloc)?)
+}
+
+// What is found of `blocks` asks.
+fn blocks<'a>(matches: &ArgMatches<'a>) -> Result<Command<'a>, WordsRefusal>
+    ensures asks { MatchResult result (λ c. asked_by verb.Blocks (rows_of (found_of matches.now)) ≡ Some (asked c))
+        (λ e. (e ≡ WordsRefusal.Unknown)
+        × (asked_by verb.Blocks (rows_of (found_of matches.now)) ≡ None)) }
+    ensures small { IfOk result HasSmallNumbers }
+    ensures script { IfOk result HasScript }
+{
+    let file = name(matches, "file")?;
+    let cut = number(matches, "cut")?;
+    let pick = number(matches, "pick")?;
+    let again = number(matches, "again")?;
+    Ok(Command::Blocks {
+        file,
+        options: BlocksOptions { cut, pick, again },
+        save: found(matches, "save"),
+    })
+}
+
+// What is found of `format` asks.
+fn format<'a>(matches: &ArgMatches<'a>) -> Result<Command<'a>, WordsRefusal>
+    ensures asks { MatchResult result (λ c. asked_by verb.Format (rows_of (found_of matches.now)) ≡ Some (asked c))
+        (λ e. (e ≡ WordsRefusal.Unknown)
+        × (asked_by verb.Format (rows_of (found_of matches.now)) ≡ None)) }
+    ensures small { IfOk result HasSmallNumbers }
+    ensures script { IfOk result HasScript }
+{
+    let image = name(matches, "image")?;
+    let queues = word(matches, "queues")?;
+    let area = word(matches, "area")?;
+    let meta = word(matches, "meta")?;
+    let zone = word(matches, "zone")?;
+    Ok(Command::Format {
+        image,
+        queues,
+        area,
+        meta,
+        zone,
+    })
+}
+
+// What is found of `run` asks.
+fn run<'a>(alloc: Global, matches: &ArgMatches<'a>) -> Result<Command<'a>, WordsRefusal>
+    ensures asks { MatchResult result (λ c. asked_by verb.Run (rows_of (found_of matches.now)) ≡ Some (asked c))
+        (λ e. (e ≡ WordsRefusal.OutOfMemory) ⊎ ((e ≡ WordsRefusal.Unknown)
+        × (asked_by verb.Run (rows_of (found_of matches.now)) ≡ None))) }
+    ensures small { IfOk result HasSmallNumbers }
+    ensures script { IfOk result HasScript }
+{
+    let image = name(matches, "image")?;
+    let cut = number(matches, "cut")?;
+    let pick = number(matches, "pick")?;
+    let fail = failing(matches, "fail")?;
+    let scripts = words_of(alloc, matches, "scripts")?;
+    Ok(Command::Run {
+        image,
+        scripts,
+        options: RunFlags { cut, pick, fail },
+    })
+}
+
+// What is found of `recover` asks.
+fn recover<'a>(matches: &ArgMatches<'a>) -> Result<Command<'a>, WordsRefusal>
+    ensures asks { MatchResult result (λ c. asked_by verb.Recover (rows_of (found_of matches.now)) ≡ Some (asked c))
+        (λ e. (e ≡ WordsRefusal.Unknown)
+        × (asked_by verb.Recover (rows_of (found_of matches.now)) ≡ None)) }
+    ensures small { IfOk result HasSmallNumbers }
+    ensures script { IfOk result HasScript }
+{
+    let image = name(matches, "image")?;
+    let cut = number(matches, "cut")?;
+    let pick = number(matches, "pick")?;
+    Ok(Command::Recover { image, cut, pick })
+}
+
+// What is found of `cat` asks.
+fn cat<'a>(alloc: Global, matches: &ArgMatches<'a>) -> Result<Command<'a>, WordsRefusal>
+    ensures asks { MatchResult result (λ c. asked_by verb.Cat (rows_of (found_of matches.now)) ≡ Some (asked c))
+        (λ e. (e ≡ WordsRefusal.OutOfMemory) ⊎ ((e ≡ WordsRefusal.Unknown)
+        × (asked_by verb.Cat (rows_of (found_of matches.now)) ≡ None))) }
+    ensures small { IfOk result HasSmallNumbers }
+    ensures script { IfOk result HasScript }
+{
+    let image = name(matches, "image")?;
+    let word = name(matches, "path")?;
+    let path = path_of(alloc, word)?;
+    Ok(Command::Cat { image, path })
+}
+
+// What is found of `gen` asks.
+fn workload<'a>(matches: &ArgMatches<'a>) -> Result<Command<'a>, WordsRefusal>
+    ensures asks { MatchResult result (λ c. asked_by verb.Gen (rows_of (found_of matches.now)) ≡ Some (asked c))
+        (λ e. (e ≡ WordsRefusal.Unknown)
+        × (asked_by verb.Gen (rows_of (found_of matches.now)) ≡ None)) }
+    ensures small { IfOk result HasSmallNumbers }
+    ensures script { IfOk result HasScript }
+{
+    let seed = bounded(matches, "seed", 0, NUMBER_END)?;
+    let threads = bounded(matches, "threads", 1, THREADS_END)?;
+    let groups = bounded(matches, "groups", 0, GROUPS_END)?;
+    Ok(Command::Gen {
+        seed,
+        threads: threads as u32,
+        groups: groups as u32,
+        save: found(matches, "save"),
+    })
+}
+
+// What is found of a command asks.
+fn command_of<'a>(
+    alloc: Global,
+    verb: Verb,
+    matches: &ArgMatches<'a>,
+) -> Result<Command<'a>, WordsRefusal>
+    ensures asks { MatchResult result (λ c. asked_by verb (rows_of (found_of matches.now)) ≡ Some (asked c))
+        (λ e. (e ≡ WordsRefusal.OutOfMemory) ⊎ ((e ≡ WordsRefusal.Unknown)
+        × (asked_by verb (rows_of (found_of matches.now)) ≡ None))) }
+    ensures small { IfOk result HasSmallNumbers }
+    ensures script { IfOk result HasScript }
+{
+    match verb {
+        Verb::Blocks => blocks(matches),
+        Verb::Format => format(matches),
+        Verb::Run => run(alloc, matches),
+        Verb::Recover => recover(matches),
+        Verb::Ls => {
+            let image = name(matches, "image")?;
+            Ok(Command::Ls { image })
+        }
+        Verb::Cat => cat(alloc, matches),
+        Verb::Gen => workload(matches),
+        Verb::Dump => {
+            let image = name(matches, "image")?;
+            Ok(Command::Dump { image })
+        }
+    }
+}
+
+// What the words of a command ask, its name the first.
+fn read_found<'a>(
+    alloc: Global,
+    verb: Verb,
+    words: &'a [String],
+) -> Result<Command<'a>, WordsRefusal>
+    ensures asks { MatchResult result (λ c. found_in verb (map string_bytes words.now) ≡ Some (asked c))
+        (λ e. (e ≡ WordsRefusal.OutOfMemory) ⊎ ((e ≡ WordsRefusal.Unknown)
+        × (found_in verb (map string_bytes words.now) ≡ None))) }
+    ensures small { IfOk result HasSmallNumbers }
+    ensures script { IfOk result HasScript }
+{
+    match parse(alloc, verb, words) {
+        Ok(matches) => command_of(alloc, verb, &matches),
+        Err(refusal) => Err(refusal),
+    }
+}
+
+// What a first word asks that names no command.
+fn read_other<'a>(word: &str) -> Result<Command<'a>, WordsRefusal>
+    ensures asks { MatchResult result (λ c. (words : Words) → asked_after None word.now words ≡ Some (asked c))
+        (λ e. (e ≡ WordsRefusal.Unknown) × ((words : Words) → asked_after None word.now words ≡ None)) }
+    ensures small { IfOk result HasSmallNumbers }
+    ensures script { IfOk result HasScript }
+{
+    match word {
+        "--help" => Ok(Command::Help(None)),
+        "--version" => Ok(Command::Version),
+        _ => Err(WordsRefusal::Unknown),
+    }
+}
+
+/// The command that the words after the program's name spell.
+pub fn read_command<'a>(alloc: Global, words: &'a [String]) -> Result<Command<'a>, WordsRefusal>
+    ensures asks { MatchResult result (λ c. asked_of (map string_bytes words.now) ≡ Some (asked c))
+        (λ e. (e ≡ WordsRefusal.OutOfMemory) ⊎ ((e ≡ WordsRefusal.Unknown)
+        × (asked_of (map string_bytes words.now) ≡ None))) }
+    ensures small { IfOk result HasSmallNumbers }
+    ensures script { IfOk result HasScript }
+{
+    let [word, rest @ ..] = words else {
+        return Err(WordsRefusal::Unknown);
+    };
+    match read_verb(word) {
+        None => read_other(word),
+        Some(verb) if asks_help(rest) => Ok(Command::Help(Some(verb))),
+        Some(verb) => read_found(alloc, verb, words),
+    }
+}

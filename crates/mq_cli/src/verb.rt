@@ -1,0 +1,51 @@
+// The commands by name.
+ghost use Rattle.std.specs.Prelude.{◌≡◌};
+ghost use Rattle.mq_cli.specs.Syntax.{verb_of, verb_text};
+
+/// A command's name.
+#[derive(Clone, Copy, Debug, PartialEq, Eq)]
+pub enum Verb {
+    Blocks,
+    Format,
+    Run,
+    Recover,
+    Ls,
+    Cat,
+    Gen,
+    Dump,
+}
+
+impl Verb {
+    /// The word of the name.
+    pub fn name<'a>(self) -> &'a str
+        ensures { result.now ≡ verb_text self }
+    {
+        match self {
+            Verb::Blocks => "blocks",
+            Verb::Format => "format",
+            Verb::Run => "run",
+            Verb::Recover => "recover",
+            Verb::Ls => "ls",
+            Verb::Cat => "cat",
+            Verb::Gen => "gen",
+            Verb::Dump => "dump",
+        }
+    }
+}
+
+/// The command that a word names.
+pub fn read_verb(word: &str) -> Option<Verb>
+    ensures { result ≡ verb_of word.now }
+{
+    match word {
+        "blocks" => Some(Verb::Blocks),
+        "format" => Some(Verb::Format),
+        "run" => Some(Verb::Run),
+        "recover" => Some(Verb::Recover),
+        "ls" => Some(Verb::Ls),
+        "cat" => Some(Verb::Cat),
+        "gen" => Some(Verb::Gen),
+        "dump" => Some(Verb::Dump),
+        _ => None,
+    }
+}

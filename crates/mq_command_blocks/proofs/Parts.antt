@@ -1,0 +1,57 @@
+-- What `blocks` says of a file that was loaded.
+use Rattle.std.proofs.Common.{◌≡◌, inl, inr, ℕ, Bool, List, Option, Some, None, refl, subst}
+use Rattle.std.specs.Prelude.{is_some, option_map}
+use Rattle.std.specs.declared.vec.Vec.{Vec}
+use Rattle.mq_command_io.specs.Ending.{EndsWith, IsLoaded, IsSaved, memory_line}
+use Rattle.mq_outside.specs.Outside.{FilesState, SinkState}
+use Rattle.mq_block_text.specs.Refusals.{IsRefused, RefusesText}
+use Rattle.mq_block_text.specs.declared.item.BlockItem.{BlockItem}
+use Rattle.mq_block_text.specs.declared.refusal.BlockTextRefusal.{BlockTextRefusal}
+use Rattle.mq_block_text.specs.declared.refusal.BlockTextRefusal.TheVariants.{At, OutOfMemory}
+use Rattle.mq_cli.specs.declared.command.BlocksOptions.{BlocksOptions}
+use Rattle.mq_command_blocks.specs.Blocks.{IsBlockText, output_of, refused_line}
+use Rattle.mq_command_blocks.specs.Cuts.{IsPrefixAt}
+use Rattle.mq_command_blocks.specs.Left.{KeepsLeft, SavesLeft}
+use Rattle.mq_command_blocks.specs.Parts.{EndsRefused, EndsRun, SavesFile}
+use Rattle.mq_command_blocks.specs.SaysOfBlocks.{SaysOfBlocks}
+use Rattle.mq_command_blocks.specs.SaysOfBlocks as says
+
+-- an option is there where what is made of it is
+pub some_map : {A B : Type 0} (f : A → B) (o : Option A) → is_some (option_map f o) ≡ is_some o
+some_map f None = refl
+some_map f (Some x) = refl
+
+abbrev pub BlocksEnd : (file : List ℕ) → BlocksOptions → (save : Option (List ℕ)) → (old new : FilesState) → (result : ℕ) → (before after : SinkState) → Type 0
+BlocksEnd file options save old new result before after = (status : ℕ) × (text : List ℕ) × SaysOfBlocks file options save old new status text × EndsWith status text result before after
+
+ends_from : (status : ℕ) (text : List ℕ) (result : ℕ) (before between after : SinkState) → between ≡ before → EndsWith status text result between after → EndsWith status text result before after
+ends_from status text result before between after silent ends = subst (λ (s : SinkState). EndsWith status text result s after) silent ends
+
+module _ {Z : Type 0} (lines : List (List BlockItem)) (cut : Option ℕ) (p : ℕ) (old new : FilesState) where
+  -- what is kept is saved where a name is given
+  left_saved : (save : Option (List ℕ)) (left : Option (Vec ℕ Z)) (wanted : Bool) → wanted ≡ is_some save → KeepsLeft wanted lines cut p left → SavesFile left save old new → SavesLeft save lines cut p old new
+  left_saved None None wanted is keeps saves = saves
+  left_saved None (Some file) wanted is keeps saves = saves
+  left_saved (Some name) None wanted is keeps saves =
+      let kept = subst (λ (b : Bool). KeepsLeft {Z = Z} b lines cut p None) is keeps in
+      absurd kept.2
+  left_saved (Some name) (Some file) wanted is keeps saves =
+      let kept = subst (λ (b : Bool). KeepsLeft b lines cut p (Some file)) is keeps in
+      (kept.0, kept.1, subst (λ (l : List ℕ). IsSaved name l old new) kept.2 saves)
+
+module _ {Z : Type 0} (file : List ℕ) (options : BlocksOptions) (save : Option (List ℕ)) (bytes : List ℕ) (old mid new : FilesState) (result : ℕ) (before between after : SinkState) (load : IsLoaded file bytes old mid) (silent : between ≡ before) where
+  pub ran : (lines : List (List BlockItem)) (p : ℕ) (left : Option (Vec ℕ Z)) (output : List ℕ) (wanted : Bool) → IsBlockText bytes lines → IsPrefixAt lines options.cut p → output ≡ output_of lines p → KeepsLeft wanted lines options.cut p left → wanted ≡ is_some save
+      → EndsRun left output save mid new result between after → BlocksEnd file options save old new result before after
+  ran lines p left output wanted is at prints keeps asks (inl done) =
+      (0, output_of lines p, says.printed bytes lines p mid load is at (left_saved lines options.cut p mid new save left wanted asks keeps done.0), ends_from 0 (output_of lines p) result before between after silent (subst (λ (t : List ℕ). EndsWith 0 t result between after) prints done.1))
+  ran lines p left output wanted is at prints keeps asks (inr not) =
+      (not.0, not.1, says.not_saved bytes lines not.2 mid not.3 load is not.4, ends_from not.0 not.1 result before between after silent not.5)
+
+pub not_run : (file : List ℕ) (options : BlocksOptions) (save : Option (List ℕ)) (bytes : List ℕ) (old new : FilesState) (result : ℕ) (before between after : SinkState) → IsLoaded file bytes old new → between ≡ before
+    → (refusal : BlockTextRefusal) → IsRefused (RefusesText bytes) refusal → EndsRefused refusal result between after → BlocksEnd file options save old new result before after
+not_run file options save bytes old new result before between after load silent (At line cause) bad (inl ends) =
+    (2, refused_line line cause, says.refused bytes line cause load bad, subst (λ (s : SinkState). EndsWith 2 (refused_line line cause) result s after) silent ends)
+not_run file options save bytes old new result before between after load silent (At line cause) bad (inr ends) =
+    (6, memory_line, says.wants_memory load.contents load.faults, subst (λ (s : SinkState). EndsWith 6 memory_line result s after) silent ends)
+not_run file options save bytes old new result before between after load silent OutOfMemory bad ends =
+    (6, memory_line, says.wants_memory load.contents load.faults, subst (λ (s : SinkState). EndsWith 6 memory_line result s after) silent ends)

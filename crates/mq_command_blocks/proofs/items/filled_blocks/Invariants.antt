@@ -1,0 +1,8 @@
+use Rattle.std.proofs.Common.{◌≡◌, ◌-◌, ◌++◌, get_or, None}
+use Rattle.mq_command_blocks.specs.Commits.{blocks_in}
+use Rattle.mq_command_blocks.specs.Lines.{writes_from, named}
+use Rattle.mq_command_blocks.proofs.items.filled_blocks.Given as goal
+
+abbrev pub invariant-loop-b : goal.invariant-loop-b
+invariant-loop-b l =
+    blocks_in (writes_from (λ b. get_or l.fills b None) 0 named) ≡ l.blocks.items ++ blocks_in (writes_from (λ b. get_or l.fills b None) l.b (named - l.b))

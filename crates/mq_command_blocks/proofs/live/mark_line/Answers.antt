@@ -1,0 +1,30 @@
+use Rattle.std.proofs.Common.{rules, ◌≡◌, ◌<◌, ◌-◌, List, length, subst, sym, ◌∙◌, arith, vec_len}
+use Rattle.mq_block_text.specs.Text.{AreGoodItems}
+use Rattle.mq_block_text.specs.declared.item.BlockItem.{BlockItem}
+use Rattle.mq_command_blocks.proofs.LinesFills.{good_at, good_set}
+use Rattle.mq_command_blocks.proofs.LiveBlocks.{good_free}
+use Rattle.mq_command_blocks.proofs.live.mark_line.Goals as goal
+
+pub index_mut-requires : goal.index_mut-requires
+index_mut-requires c =
+    let items : List BlockItem = c.as_slice-items.result.now in
+    let view : items ≡ c.args.line.now = c.as_slice-items.ensures.value ∙ c.line.view_is in
+    let good : AreGoodItems items = subst AreGoodItems (sym view) c.requires.good in
+    let within : c.loop-k.k - 1 < length items = let inside = c.loop-k.invariant.within in let some = c.loop-k-test.true in omega arith in
+    let small : c.in-Set.block < 256 = good_set _ c.in-Set.block _ c.in-Set.is (good_at items (c.loop-k.k - 1) _ within good) in
+    let len : vec_len c.loop-k.marks ≡ length c.loop-k.marks.items = search rules in
+    let whole = c.loop-k.invariant.whole in
+    let is : c.block.inside.0 ≡ c.in-Set.block = c.block.view_is in
+    omega (arith, small, len, whole, is)
+
+pub index_mut-requires-in-Free : goal.index_mut-requires-in-Free
+index_mut-requires-in-Free c =
+    let items : List BlockItem = c.as_slice-items.result.now in
+    let view : items ≡ c.args.line.now = c.as_slice-items.ensures.value ∙ c.line.view_is in
+    let good : AreGoodItems items = subst AreGoodItems (sym view) c.requires.good in
+    let within : c.loop-k.k - 1 < length items = let inside = c.loop-k.invariant.within in let some = c.loop-k-test.true in omega arith in
+    let small : c.in-Free.block < 256 = good_free _ c.in-Free.block c.in-Free.is (good_at items (c.loop-k.k - 1) _ within good) in
+    let len : vec_len c.loop-k.marks ≡ length c.loop-k.marks.items = search rules in
+    let whole = c.loop-k.invariant.whole in
+    let is : c.block-in-Free.inside.0 ≡ c.in-Free.block = c.block-in-Free.view_is in
+    omega (arith, small, len, whole, is)

@@ -1,0 +1,41 @@
+-- What there is to say for `blocks` of a file, and with which status; and which status the file decides.
+use Rattle.std.specs.Prelude.{◌≡◌, ℕ, List, Option, Some}
+use Rattle.mq_command_io.specs.Ending.{IsLoaded, IsNotLoaded, IsNotSaved, memory_line}
+use Rattle.mq_outside.specs.Outside.{FilesState, Held, Tells}
+use Rattle.mq_block_text.specs.Refusals.{RefusesText}
+use Rattle.mq_block_text.specs.declared.item.BlockItem.{BlockItem}
+use Rattle.mq_block_text.specs.declared.refusal.BlockTextCause.{BlockTextCause}
+use Rattle.mq_command_blocks.specs.Blocks.{IsBlockText, output_of, refused_line}
+use Rattle.mq_command_blocks.specs.Cuts.{IsPrefixAt}
+use Rattle.mq_command_blocks.specs.Left.{SavesLeft}
+use Rattle.mq_cli.specs.declared.command.BlocksOptions.{BlocksOptions}
+
+-- The file holds a text, and the output is that of the lines that stand after the cut; the image that the
+-- cut left is saved before, where a name for it is given. Or the text is refused; or it is not loaded, or
+-- the image not saved.
+pub data SaysOfBlocks (file : List ℕ) (options : BlocksOptions) (save : Option (List ℕ))
+    (old new : FilesState) : (status : ℕ)
+    → (text : List ℕ) → Type 0 where
+  printed : (bytes : List ℕ) (lines : List (List BlockItem)) (p : ℕ) (loaded : FilesState)
+      → IsLoaded file bytes old loaded → IsBlockText bytes lines → IsPrefixAt lines options.cut p
+      → SavesLeft save lines options.cut p loaded new
+      → SaysOfBlocks file options save old new 0 (output_of lines p)
+  refused : (bytes : List ℕ) (line : ℕ) (cause : BlockTextCause) → IsLoaded file bytes old new
+      → RefusesText bytes line cause
+      → SaysOfBlocks file options save old new 2 (refused_line line cause)
+  not_loaded : {status : ℕ} {text : List ℕ} → IsNotLoaded file old new status text
+      → SaysOfBlocks file options save old new status text
+  not_saved : {status : ℕ} {text : List ℕ} (bytes : List ℕ) (lines : List (List BlockItem))
+      (name : List ℕ) (loaded : FilesState)
+      → save ≡ Some name → IsLoaded file bytes old loaded → IsBlockText bytes lines
+      → IsNotSaved name loaded new status text → SaysOfBlocks file options save old new status text
+  wants_memory : new.contents ≡ old.contents → new.faults ≡ old.faults
+      → SaysOfBlocks file options save old new 6 memory_line
+
+-- the status where nothing fails and memory does not run out: the file holds a text, or bytes that are
+-- refused
+pub data TextDecides (file : List ℕ) (held : Option Held) : ℕ → Type 0 where
+  good_text : (bytes : List ℕ) (lines : List (List BlockItem)) → Tells held file (Some bytes)
+      → IsBlockText bytes lines → TextDecides file held 0
+  bad_text : (bytes : List ℕ) (line : ℕ) (cause : BlockTextCause) → Tells held file (Some bytes)
+      → RefusesText bytes line cause → TextDecides file held 2

@@ -1,0 +1,79 @@
+// The blocks that a text leaves, and what stands on them.
+ghost use Rattle.std.specs.Prelude.{◌≡◌, ◌<◌, ◌≤◌, ◌+◌, ℕ, List, length, IfOk, false, slice_index_or};
+ghost use Rattle.mq_blocks.specs.Machine.{Map};
+ghost use Rattle.mq_command_blocks.specs.Fresh.{IsTextGeometry};
+ghost use Rattle.mq_command_blocks.specs.Lines.{live_from, map_after, named};
+ghost use Rattle.mq_command_blocks.specs.Live.{AreMarks, HoldsMap, marked};
+ghost use Rattle.mq_recover.specs.Drives.{IsQuiescentDrive, drive_of};
+ghost use Rattle.mq_block_text.specs.Text.{AreGoodItems, IsGoodText};
+
+use crate::items::NAMED;
+use mq_block_text::{BlockItem, BlockLine, BlockText};
+use mq_blocks::{Block, BlockNo, Geometry, OutOfMemory};
+use mq_drive::{Port, Ports};
+use mq_recover::read_home;
+use std::alloc::Global;
+
+// Marks the blocks that a line sets, and takes the marks of those that it frees.
+fn mark_line(line: &BlockLine, marks: &mut Vec<bool>)
+    requires good { AreGoodItems line.now }
+    requires whole { length marks.old.items ≡ 256 }
+    ensures whole { length marks.new.items ≡ 256 }
+    ensures marks { (b : ℕ)
+        → b < 256
+        → slice_index_or marks.new.items b false ≡ marked line.now b
+        (slice_index_or marks.old.items b false) }
+{
+    let items = line.0.as_slice();
+    let mut k = items.len();
+    while k > 0 {
+        k -= 1;
+        match items[k] {
+            BlockItem::Set(block, _) => marks[block.0 as usize] = true,
+            BlockItem::Free(block) => marks[block.0 as usize] = false,
+        }
+    }
+}
+
+/// For each block that texts may name, whether it is live after the first `count` lines.
+pub fn live_marks(alloc: Global, text: &BlockText, count: u64) -> Result<Vec<bool>, OutOfMemory>
+    requires good { IsGoodText text.now }
+    requires count { count ≤ length text.now }
+    ensures { IfOk result (λ v. (length v.items ≡ 256) × AreMarks (map_after text.now count) v.items) }
+{
+    let mut marks = vec![in alloc; false; NAMED]?;
+    for line in &text.0[..count as usize] {
+        mark_line(line, &mut marks);
+    }
+    Ok(marks)
+}
+
+/// The live blocks in rising order of numbers, each with the first byte of its home block.
+pub fn live_blocks<P: Port>(
+    alloc: Global,
+    geometry: Geometry,
+    ports: &Ports<P>,
+    marks: &[bool],
+) -> Result<Vec<(BlockNo, u8)>, OutOfMemory>
+    requires geometry { IsTextGeometry geometry }
+    requires still { IsQuiescentDrive geometry (drive_of P.state ports.now) }
+    requires marks { length marks.now ≡ 256 }
+    ensures { IfOk result (λ v. (m : Map)
+        → AreMarks m marks.now
+        → HoldsMap geometry (drive_of P.state ports.now) m
+        → v.items ≡ live_from m 0 named) }
+{
+    let mut live = Vec::new(alloc);
+    let mut block = Block::zeroed(alloc)?;
+    for b in 0..NAMED {
+        match marks[b] {
+            false => {}
+            true => {
+                let number = BlockNo(b as u32);
+                read_home(geometry, ports, number, &mut block);
+                live.push((number, block.bytes()[0]))?;
+            }
+        }
+    }
+    Ok(live)
+}

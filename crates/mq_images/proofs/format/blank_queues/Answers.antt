@@ -1,5 +1,0 @@
-use Rattle.mq_images.proofs.Empty.{blank-more}
-use Rattle.mq_images.proofs.format.blank_queues.Goals as goal
-
-pub loop-q-preserved : goal.loop-q-preserved
-loop-q-preserved c = blank-more c.args.geometry c.loop-q.q c.loop-q.ports.items c.push.new.self.items _ c.loop-q.invariant c.in_ok-push.ensures.items (c.in_ok-blank_queue.ensures c.loop-q.q)

@@ -1,5 +1,0 @@
-use Rattle.mq_images.specs.Empty.{AreBlankQueues}
-use Rattle.mq_images.proofs.format.blank_queues.Given as goal
-
-abbrev pub invariant-loop-q : goal.invariant-loop-q
-invariant-loop-q l = AreBlankQueues l.geometry l.q l.ports.items

@@ -1,5 +1,0 @@
-use Rattle.mq_promise.proofs.BackedBlames.{is-backed}
-use Rattle.mq_promise.proofs.laws.a_refusal_is_backed.Goals as goal
-
-pub returns : goal.returns
-returns g c = λ d ports s scripts finish e t r cause run short c bad is. is-backed g.P.Port g.P.Port.state g.P.Port.faults d ports s scripts finish e run short t r cause c bad is

@@ -1,0 +1,48 @@
+// What the calls of a side answer.
+ghost use Rattle.std.specs.Prelude.{◌≡◌};
+
+use mq_blocks::{BlockNo, TxNo};
+use mq_drive::Off;
+
+/// Why a transaction stopped its queue.
+#[derive(Clone, Copy, Debug, PartialEq, Eq)]
+pub enum Why {
+    /// A command of it ended with this status.
+    Status(u16),
+    /// Its send was cut.
+    Off,
+}
+
+/// Why the drive did not execute a call.
+#[derive(Clone, Copy, Debug, PartialEq, Eq)]
+pub enum Cause {
+    /// The power is off.
+    Off,
+    /// A command failed in this call. Of the transactions with a failed command, this is the one with
+    /// the smallest number, with the first status that was seen of it.
+    Failed { tx: TxNo, status: u16 },
+    /// A home write of this block failed.
+    FailedHome { block: BlockNo, status: u16 },
+    /// No command failed in this call, and this failure was kept.
+    Stopped { tx: TxNo, why: Why },
+}
+
+impl From<Off> for Cause {
+    ghost use Rattle.mq_queue_side.specs.declared.answers.Cause.TheVariants as cause;
+
+    ghost from_gives = { λ _ e. e ≡ cause.Off };
+
+    fn from(_: Off) -> Self {
+        Cause::Off
+    }
+}
+
+/// Whether a transaction has room on its queue.
+#[derive(Clone, Copy, Debug, PartialEq, Eq)]
+pub enum Fit {
+    Yes,
+    /// There is too little room in the ring, until the queue is drained.
+    Ring,
+    /// There is too little room in the journal area, until a checkpoint raises the base.
+    Area,
+}

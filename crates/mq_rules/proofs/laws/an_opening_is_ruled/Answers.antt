@@ -1,5 +1,0 @@
-use Rattle.mq_rules.proofs.Meaning.{starts}
-use Rattle.mq_rules.proofs.laws.an_opening_is_ruled.Goals as goal
-
-pub returns : goal.returns
-returns g c = λ o fresh. let is = starts g.J.JournalValues.values g.J.JournalValues.group o fresh in record { ok = is.ok; pages = is.pages; sides = is.sides; root = is.root }

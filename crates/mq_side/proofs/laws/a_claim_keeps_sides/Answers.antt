@@ -1,9 +1,0 @@
-use Rattle.mq_side.proofs.SideClaims.{claimed}
-use Rattle.mq_side.proofs.SideDraws.{side_along}
-use Rattle.mq_side.proofs.laws.a_claim_keeps_sides.Goals as goal
-
-pub returns-clause-done : goal.returns-clause-done
-returns-clause-done c k q us s done log is = claimed k q us s log is done
-
-pub returns-clause-changed : goal.returns-clause-changed
-returns-clause-changed c = side_along

@@ -1,5 +1,0 @@
-use Rattle.mq_side.proofs.SideDraws.{opened}
-use Rattle.mq_side.proofs.laws.a_new_side_is_one.Goals as goal
-
-pub returns : goal.returns
-returns c = opened

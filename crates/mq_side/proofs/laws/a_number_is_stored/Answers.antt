@@ -1,5 +1,0 @@
-use Rattle.mq_side.proofs.Stored.{stored_more}
-use Rattle.mq_side.proofs.laws.a_number_is_stored.Goals as goal
-
-pub returns : goal.returns
-returns g c = stored_more

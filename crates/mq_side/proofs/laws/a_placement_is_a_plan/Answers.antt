@@ -1,5 +1,0 @@
-use Rattle.mq_side.proofs.CommitsPlans.{planned}
-use Rattle.mq_side.proofs.laws.a_placement_is_a_plan.Goals as goal
-
-pub returns : goal.returns
-returns c = planned

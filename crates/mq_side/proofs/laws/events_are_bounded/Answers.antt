@@ -1,5 +1,0 @@
-use Rattle.mq_side.proofs.Counts.{events_bound}
-use Rattle.mq_side.proofs.laws.events_are_bounded.Goals as goal
-
-pub returns : goal.returns
-returns c = events_bound

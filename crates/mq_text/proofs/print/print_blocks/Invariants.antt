@@ -1,7 +1,0 @@
-use Rattle.std.proofs.Common.{◌≡◌, ◌++◌, drop}
-use Rattle.mq_text.specs.Text.{live_text, printed}
-use Rattle.mq_text.proofs.print.print_blocks.Given as goal
-
--- what is printed, and the lines of the blocks that are left, are all
-abbrev pub invariant-loop-block : goal.invariant-loop-block
-invariant-loop-block l = l.out.items ++ live_text (drop l.block-index l.live) ≡ printed l.prefix l.live

@@ -1,8 +1,0 @@
-use Rattle.std.proofs.Common.{◌≡◌, ◌-◌, ◌++◌, get_or, None}
-use Rattle.mq_text_run.specs.Commits.{blocks_in}
-use Rattle.mq_text_run.specs.Lines.{writes_from, named}
-use Rattle.mq_text_run.proofs.items.filled_blocks.Given as goal
-
-abbrev pub invariant-loop-b : goal.invariant-loop-b
-invariant-loop-b l =
-    blocks_in (writes_from (λ b. get_or l.fills b None) 0 named) ≡ l.blocks.items ++ blocks_in (writes_from (λ b. get_or l.fills b None) l.b (named - l.b))
