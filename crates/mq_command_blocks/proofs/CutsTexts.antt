@@ -1,6 +1,6 @@
 -- How many lines of a text stand where the power of a port in memory goes off after so many events.
 use Rattle.std.proofs.Common.{◌≡◌, ◌<◌, ◌≤◌, ◌^◌, ℕ, zero, suc, ◌+◌, ◌-◌, List, [], ◌∷◌, length, min, Option, Some, None, inl, inr, refl, sym, ◌∙◌, ap, subst, arith}
-use Rattle.std.specs.Prelude.{Contains, IfSome, Result, Err}
+use Rattle.std.specs.Prelude.{Contains, IfSome}
 use Rattle.std.proofs.lemmas.Bool.{cases_lt}
 use Rattle.mq_blocks.specs.Drive.{FuseName, counted}
 use Rattle.mq_drive.specs.Emu.{emu_state, emu_faults, drawn_by}
@@ -13,12 +13,9 @@ use Rattle.mq_drive.specs.declared.fuse.FuseSeat.{FuseSeat}
 use Rattle.mq_drive.proofs.Happened.{happened-alone}
 use Rattle.mq_drive.proofs.StepsFaults.{off_above, off_unlimited, no_error, command_error_is_none}
 use Rattle.mq_command_blocks.specs.Blocks.{output_of}
-use Rattle.mq_command_blocks.specs.Causes.{HasTextCause}
 use Rattle.mq_command_blocks.specs.Cuts.{events_of, events_under, rung_after, IsReached, IsPrefixAt, StandsUnder}
 use Rattle.mq_command_blocks.specs.Lines.{live_from, map_after, named}
 use Rattle.mq_block_text.specs.Text.{printed}
-use Rattle.mq_command_blocks.specs.declared.commit.TextRefusal.{TextRefusal}
-use Rattle.mq_command_blocks.specs.declared.commit.TextRefusal.TheVariants.{Off, Failed}
 use Rattle.mq_block_text.specs.declared.item.BlockItem.{BlockItem}
 
 abbrev Lines : Type 0
@@ -121,16 +118,6 @@ prefix_within lines (Some k) n is = is.within
 pub none_failed : (p : EmuPort) (tx status : ℕ) → (emu_state p).fail ≡ None → Gains (CommandError tx status) [] (emu_faults p) → ⊥
 none_failed p tx status none gains =
     no_error [] p.device.value (CommandError tx status) (command_error_is_none tx status) gains none (λ has. let within = has.1 in omega (arith, within))
-
--- ---- the causes of a text's refusals
-
-pub off_cause : {A : Type 0} (r : Result A TextRefusal) (e : TextRefusal) (old new : List PortFault) → HasTextCause r old new → r ≡ Err e → e ≡ Off → Gains PowerOff old new
-off_cause {A} r e old new cause is off =
-    subst (λ (x : TextRefusal). HasTextCause {A = A} (Err x) old new) off (subst (λ (x : Result A TextRefusal). HasTextCause x old new) is cause)
-
-pub failed_cause : {A : Type 0} (r : Result A TextRefusal) (e : TextRefusal) (status : ℕ) (old new : List PortFault) → HasTextCause r old new → r ≡ Err e → e ≡ Failed status → (tx : ℕ) × Gains (CommandError tx status) old new
-failed_cause {A} r e status old new cause is failed =
-    subst (λ (x : TextRefusal). HasTextCause {A = A} (Err x) old new) failed (subst (λ (x : Result A TextRefusal). HasTextCause x old new) is cause)
 
 -- ---- what is printed
 

@@ -1,11 +1,13 @@
 -- The image that the cut leaves of the drive of a block text.
-use Rattle.std.proofs.Common.{◌≡◌, ℕ, Bool, true, false, List, [], ◌∷◌, take, get_or, Option, None, refl, sym, ◌∙◌, ap, subst, arith}
+use Rattle.std.proofs.Common.{◌≡◌, ◌<◌, ℕ, zero, suc, Bool, true, false, List, [], ◌∷◌, All, take, get_or, Option, None, refl, sym, ◌∙◌, ap, subst, arith}
 use Rattle.std.specs.declared.vec.Vec.{Vec}
-use Rattle.mq_blocks.specs.Drive.{PortImage}
+use Rattle.mq_blocks.specs.Drive.{FuseName, PortImage}
 use Rattle.mq_blocks.specs.Geometry.{queues_of}
 use Rattle.mq_blocks.specs.Journal.{Shown, shown, no_image}
 use Rattle.mq_blocks.specs.declared.geometry.Geometry.{Geometry}
+use Rattle.mq_drive.specs.Seats.{fuse_of}
 use Rattle.mq_drive.specs.Start.{IsImageOf}
+use Rattle.mq_drive.specs.declared.fuse.FuseSeat.{FuseSeat}
 use Rattle.mq_drive.specs.declared.role.Role.TheVariants.{Queue, Root}
 use Rattle.mq_image.specs.Drives.{IsDrive}
 use Rattle.mq_image.specs.File.{DriveImage, image_bytes, root_port}
@@ -41,6 +43,15 @@ is_left lines cut p g q r text queue root shows rung = record {
   shows = subst (λ (i : Shown). ShowsMap g i p (map_after lines p)) (sym (left_view g q r text.queues)) shows;
   rung = ap (λ (i : Shown). i.doorbell 0) (left_view g q r text.queues) ∙ rung;
 }
+
+-- both seats are of the fuse
+pub two_seats : (fuse : FuseName) (q r : FuseSeat) (seats : List FuseSeat) → seats ≡ q ∷ r ∷ [] → fuse_of q ≡ fuse → fuse_of r ≡ fuse → All (λ s. fuse_of s ≡ fuse) seats
+two_seats fuse q r seats are first second = subst (All (λ s. fuse_of s ≡ fuse)) (sym are) of
+  where
+    of : (k : ℕ) (d : FuseSeat) → k < 2 → fuse_of (get_or (q ∷ r ∷ []) k d) ≡ fuse
+    of zero d low = first
+    of (suc zero) d low = second
+    of (suc (suc k)) d low = absurd (omega (arith, low))
 
 module _ {Z : Type 0} where
   -- its file is kept where it is wanted

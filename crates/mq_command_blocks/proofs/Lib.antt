@@ -13,7 +13,8 @@ pub mod Left
 pub mod RunsLines
 pub mod Lists
 pub mod LiveBlocks
-pub mod RestartImages
+pub mod RestartStanding
+pub mod CutsDrives
 pub mod CommitsRungEntries
 pub mod SaysOfBlocksDecided
 pub mod Parts

@@ -1,8 +1,7 @@
 -- Which blocks are live after a text, and what is printed of them.
-use Rattle.std.specs.Prelude.{◌≡◌, ◌<◌, ℕ, Bool, true, false, List, [], ◌∷◌, is_some, Some, slice_index_or, nat_eq, if◌then◌else◌}
+use Rattle.std.specs.Prelude.{◌≡◌, ◌<◌, ℕ, Bool, true, false, List, [], ◌∷◌, is_some, Option, Some, slice_index_or, nat_eq, if◌then◌else◌}
+use Rattle.mq_blocks.specs.Blocks.{block_at}
 use Rattle.mq_blocks.specs.Machine.{Map}
-use Rattle.mq_blocks.specs.declared.geometry.Geometry.{Geometry}
-use Rattle.mq_recover.specs.Drives.{DriveState, view_over}
 use Rattle.mq_block_text.specs.declared.item.BlockItem.{BlockItem}
 use Rattle.mq_block_text.specs.declared.item.BlockItem.TheVariants.{Set, Free}
 
@@ -16,6 +15,6 @@ marked (Free c ∷ is) b old = if nat_eq c b then false else marked is b old
 abbrev pub AreMarks : Map → List Bool → Type 0
 AreMarks m marks = (b : ℕ) → b < 256 → slice_index_or marks b false ≡ is_some (m b)
 
--- the home blocks hold the map's contents
-abbrev pub HoldsMap : Geometry → DriveState → Map → Type 0
-HoldsMap g d m = (b : ℕ) (v : List ℕ) → b < 256 → m b ≡ Some v → (view_over g d).home b ≡ v
+-- the home blocks, of which an absent one is zeros, hold the map's contents
+abbrev pub HoldsMap : List (Option (List ℕ)) → Map → Type 0
+HoldsMap stored m = (b : ℕ) (v : List ℕ) → b < 256 → m b ≡ Some v → block_at stored b ≡ v

@@ -1,35 +1,29 @@
 // A block text is run: committed on a fresh drive, cut from power, recovered, and printed.
-ghost use Rattle.std.specs.Prelude.{◌≡◌, ◌<◌, ◌≤◌, ◌+◌, ℕ, List, [], ◌∷◌, length, ◌^◌, false, true, IfErr, IfOk, IfSome, OnOk, MatchResult, Some, None, is_some, slice_get, slice_index_or};
-ghost use Rattle.std.specs.Option.{ForSome};
+ghost use Rattle.std.specs.Prelude.{◌≡◌, ◌<◌, ◌+◌, ℕ, List, ◌^◌, false, true, Err, IfErr, IfOk, IfSome, OnOk, MatchResult, None};
 ghost use Rattle.mq_blocks.specs.Geometry.{homes_of, queues_of};
-ghost use Rattle.mq_blocks.specs.Journal.{shown};
-ghost use Rattle.mq_nvme.specs.Says.{journal_reading};
-ghost use Rattle.mq_drive.specs.Start.{IsImageOf, area_size_of, homes_size_of};
-ghost use Rattle.mq_drive.specs.Seats.{name_of, fuse_of, tickets_of};
-ghost use Rattle.mq_drive.specs.Roles.{slots_of};
-ghost use Rattle.mq_drive.specs.declared.role.Role.TheVariants.{Queue, Root};
-ghost use Rattle.mq_command_blocks.specs.Commits.{AllBelow, ShowsMap};
-ghost use Rattle.mq_command_blocks.specs.Fresh.{IsTextGeometry, IsFresh};
-ghost use Rattle.mq_command_blocks.specs.Lines.{map_after};
+ghost use Rattle.mq_drive.specs.Seats.{name_of};
+ghost use Rattle.mq_command_blocks.specs.Commits.{AllBelow};
+ghost use Rattle.mq_command_blocks.specs.Fresh.{IsTextGeometry};
 ghost use Rattle.mq_block_text.specs.Text.{IsGoodText};
 ghost use Rattle.mq_command_blocks.specs.Blocks.{IsBlockText, output_of};
-ghost use Rattle.mq_command_blocks.specs.Cuts.{IsPrefixAt, StandsUnder, events_under, rung_after};
+ghost use Rattle.mq_command_blocks.specs.Cuts.{IsPrefixAt};
 ghost use Rattle.mq_block_text.specs.declared.refusal.BlockTextCause.{BlockTextCause};
 ghost use Rattle.mq_block_text.specs.Refusals.{IsRefusal, IsRefused, RefusesText};
-ghost use Rattle.mq_command_blocks.specs.Left.{IsFile, KeepsLeft, drive_image};
+ghost use Rattle.mq_command_blocks.specs.Left.{IsCutText, IsFile, IsLeft, IsPickedText, KeepsLeft};
 ghost use Rattle.mq_cli.specs.Asked.{AreSmall};
+ghost use Rattle.mq_image.specs.Drives.{IsDrive};
 ghost use Rattle.mq_image.specs.File.{image_bytes};
+ghost use Rattle.mq_image_ops.specs.Starts.{AreFreshSeats};
 
 use crate::commit::{TextRefusal, commit_text};
 use crate::live::{live_blocks, live_marks};
-use crate::power::power_of_two;
-use crate::restart::{recover_first, recover_images, restarted};
+use crate::restart::stands_after;
 use mq_block_text::{BlockItem, BlockText, BlockTextRefusal, print_blocks, read_block_text};
-use mq_blocks::{Block, Geometry, OutOfMemory, QueueNo, RING_DEPTH};
+use mq_blocks::{Geometry, OutOfMemory};
 use mq_cli::BlocksOptions;
-use mq_drive::{Fuse, FuseSeat, PortImage, Ports, Role};
+use mq_drive::{Fuse, FuseSeat};
 use mq_image::{DriveImage, write_image};
-use mq_nvme::Entry;
+use mq_image_ops::{CutDrive, blank_drive, cut_ports, drive_power, start_ports};
 use std::alloc::Global;
 
 /// The geometry of block texts: one queue with the smallest journal area, and 256 home blocks.
@@ -42,122 +36,69 @@ pub fn text_geometry() -> Geometry
     }
 }
 
-// So many blocks of zeros.
-fn absent_blocks(alloc: Global, count: u32) -> Result<Vec<Option<Block>>, OutOfMemory>
-    ensures { IfOk result (λ v. (length v.items ≡ count) × ((k : ℕ) → slice_index_or v.items k None ≡ None)) }
+// Where no command fails, a text is committed, or cut by its power, or wants memory.
+fn check_memory(answer: Result<(), TextRefusal>) -> Result<(), OutOfMemory>
+    requires { (status : ℕ) → answer ≡ Err (TextRefusal.Failed status) → ⊥ }
+    ensures { OnOk result (answer ≡ Err TextRefusal.OutOfMemory → ⊥) }
 {
-    let mut blocks = Vec::with_capacity(alloc, count as usize)?;
-    for b in 0..count {
-        let _index = b;
-        blocks.push(None)?;
-    }
-    Ok(blocks)
-}
-
-// The slots and the blocks of a role.
-fn sizes(geometry: Geometry, role: Role) -> (usize, u32)
-    ensures slots { result.0 ≡ slots_of role }
-    ensures blocks { result.1 ≡ area_size_of geometry role + homes_size_of geometry role }
-{
-    match role {
-        Role::Queue(_) => (RING_DEPTH as usize, geometry.area() + geometry.zone()),
-        Role::Root => (0, geometry.meta()),
+    match answer {
+        Ok(()) => Ok(()),
+        Err(TextRefusal::Off) => Ok(()),
+        Err(TextRefusal::OutOfMemory) => Err(OutOfMemory),
+        Err(TextRefusal::Failed { .. }) => unreachable!(),
     }
 }
 
-// An image of zeros of a role.
-fn fresh_image(alloc: Global, geometry: Geometry, role: Role) -> Result<PortImage, OutOfMemory>
-    ensures image { IfOk result (IsImageOf geometry role) }
-    ensures fresh { IfOk result IsFresh }
-{
-    let (slots, count) = sizes(geometry, role);
-    Ok(PortImage {
-        doorbell: 0,
-        head: 0,
-        base: 0,
-        slots: vec![in alloc; Entry::zeroed(); slots]?,
-        blocks: absent_blocks(alloc, count)?,
-    })
-}
-
-// Where no command fails, a text is refused by its power or as out of memory.
-fn check_power(refusal: TextRefusal) -> Result<(), OutOfMemory>
-    requires { (status : ℕ) → refusal ≡ TextRefusal.Failed status → ⊥ }
-    ensures { OnOk result (refusal ≡ TextRefusal.Off) }
-{
-    match refusal {
-        TextRefusal::Off => Ok(()),
-        TextRefusal::OutOfMemory => Err(OutOfMemory),
-        TextRefusal::Failed { .. } => unreachable!(),
-    }
-}
-
-// Commits a text on a fresh drive whose power is that of a fuse, and cuts it: what stays of the
-// queue's port and of the root's, and their seats.
+// Commits a text on a fresh drive that starts with the power of a fuse, until the power goes off or to the
+// end, and cuts the power of all its ports then.
 fn commit_until(
     alloc: Global,
     fuse: &Fuse,
-    seats: (FuseSeat, FuseSeat),
+    seats: Vec<FuseSeat>,
     geometry: Geometry,
     text: &BlockText,
     pick: u64,
-) -> Result<((PortImage, FuseSeat), (PortImage, FuseSeat)), OutOfMemory>
+) -> Result<CutDrive, OutOfMemory>
     requires geometry { IsTextGeometry geometry }
     requires good { IsGoodText text.now }
     requires below { AllBelow (homes_of geometry) text.now }
     requires cut { IfSome (name_of fuse.now).limit (λ k. k < 2 ^ 63) }
-    requires queue_seat { (fuse_of seats.0 ≡ name_of fuse.now) × (tickets_of seats.0 ≡ []) }
-    requires root_seat { (fuse_of seats.1 ≡ name_of fuse.now) × (tickets_of seats.1 ≡ []) }
-    ensures shows { IfOk result (λ r. (p : ℕ)
-        × StandsUnder text.now (name_of fuse.now).limit (tickets_of r.0.1) r.0.0.doorbell p
-        × ShowsMap geometry (shown journal_reading geometry (r.0.0 ∷ []) r.1.0) p (map_after text.now p)) }
-    ensures queue { IfOk result (λ r. IsImageOf geometry (Queue 0) r.0.0) }
-    ensures root { IfOk result (λ r. IsImageOf geometry Root r.1.0) }
-    ensures queue_seat { IfOk result (λ r. fuse_of r.0.1 ≡ name_of fuse.now) }
-    ensures root_seat { IfOk result (λ r. (fuse_of r.1.1 ≡ name_of fuse.now) × (tickets_of r.1.1 ≡ [])) }
+    requires seats { AreFreshSeats (name_of fuse.now) (queues_of geometry + 1) seats.items }
+    ensures stands { IfOk result (λ r. IsCutText geometry text.now (name_of fuse.now) r.images.items
+        r.seats.items) }
+    ensures chosen { IfOk result (λ r. IsPickedText geometry pick (name_of fuse.now) r.images.items
+        r.seats.items) }
 {
-    let queue = fresh_image(alloc, geometry, Role::Queue(QueueNo(0)))?;
-    let root = fresh_image(alloc, geometry, Role::Root)?;
-    let ports = restarted(alloc, fuse, seats, geometry, (queue, root), pick)?;
+    let image = blank_drive(alloc, geometry)?;
+    let ports = start_ports(alloc, fuse, seats, image, None, pick)?;
     let (ports, answer) = commit_text(alloc, geometry, ports, text);
-    let Ports { mut queues, root } = ports;
-    let queue = queues.remove(0);
-    match answer {
-        Ok(()) => Ok((queue.cut(pick), root.cut(pick))),
-        Err(refusal) => {
-            check_power(refusal)?;
-            Ok((queue.cut(pick), root.cut(pick)))
-        }
-    }
+    check_memory(answer)?;
+    cut_ports(alloc, ports, pick)
 }
 
 /// Commits a text on a fresh drive, and cuts the power after `cut` events of the queue's port, or at
-/// the end. Returns what stays of the queue's port and of the root's.
+/// the end. Returns the image that the cut leaves.
 fn commit_fresh(
     alloc: Global,
     geometry: Geometry,
     text: &BlockText,
     cut: Option<u64>,
     pick: u64,
-) -> Result<(PortImage, PortImage), OutOfMemory>
+) -> Result<DriveImage, OutOfMemory>
     requires geometry { IsTextGeometry geometry }
     requires good { IsGoodText text.now }
     requires below { AllBelow (homes_of geometry) text.now }
     requires cut { IfSome cut (λ k. k < 2 ^ 63) }
-    ensures shows { IfOk result (λ r. (p : ℕ)
-        × IsPrefixAt text.now cut p
-        × ShowsMap geometry (shown journal_reading geometry (r.0 ∷ []) r.1) p (map_after text.now p)) }
-    ensures doorbell { IfOk result (λ r. r.0.doorbell ≡ rung_after text.now (events_under text.now cut)) }
-    ensures queue { IfOk result (λ r. IsImageOf geometry (Queue 0) r.0) }
-    ensures root { IfOk result (λ r. IsImageOf geometry Root r.1) }
+    ensures { IfOk result (λ x. (p : ℕ) × IsPrefixAt text.now cut p × IsLeft text.now cut p x) }
 {
-    let (fuse, queue_seat, root_seat) = power_of_two(alloc, cut)?;
-    let (queue, root) = commit_until(alloc, &fuse, (queue_seat, root_seat), geometry, text, pick)?;
-    let mut seats = Vec::with_capacity(alloc, 2)?;
-    seats.push(queue.1)?;
-    seats.push(root.1)?;
+    let (fuse, seats) = drive_power(alloc, geometry, cut)?;
+    let left = commit_until(alloc, &fuse, seats, geometry, text, pick)?;
+    let CutDrive { images, seats } = left;
     fuse.close(seats);
-    Ok((queue.0, root.0))
+    Ok(DriveImage {
+        geometry,
+        ports: images,
+    })
 }
 
 /// The result of `mqfs blocks` for a text.
@@ -169,49 +110,16 @@ pub struct TextRun {
     pub left: Option<Vec<u8>>,
 }
 
-// The file of the image that a queue's port and the root's are, and the two.
-fn file_of(
-    alloc: Global,
-    geometry: Geometry,
-    images: (PortImage, PortImage),
-) -> Result<((PortImage, PortImage), Vec<u8>), OutOfMemory>
-    requires one { queues_of geometry ≡ 1 }
-    requires queue { IsImageOf geometry (Queue 0) images.0 }
-    requires root { IsImageOf geometry Root images.1 }
-    ensures same { IfOk result (λ r. r.0 ≡ images) }
-    ensures file { IfOk result (λ r. r.1.items ≡ image_bytes (drive_image geometry images.0 images.1)) }
-{
-    let mut ports = Vec::with_capacity(alloc, 2)?;
-    ports.push(images.0)?;
-    ports.push(images.1)?;
-    let image = DriveImage { geometry, ports };
-    let file = write_image(alloc, &image)?;
-    let DriveImage { mut ports, .. } = image;
-    let queue = ports.remove(0);
-    let root = ports.remove(0);
-    Ok(((queue, root), file))
-}
-
-// The same where the file is wanted.
-fn left_of(
-    alloc: Global,
-    geometry: Geometry,
-    images: (PortImage, PortImage),
-    wanted: bool,
-) -> Result<((PortImage, PortImage), Option<Vec<u8>>), OutOfMemory>
-    requires one { queues_of geometry ≡ 1 }
-    requires queue { IsImageOf geometry (Queue 0) images.0 }
-    requires root { IsImageOf geometry Root images.1 }
-    ensures same { IfOk result (λ r. r.0 ≡ images) }
-    ensures none { wanted ≡ false → IfOk result (λ r. r.1 ≡ None) }
-    ensures some { wanted ≡ true
-        → IfOk result (λ r. IsFile (image_bytes (drive_image geometry images.0 images.1)) r.1) }
+// The file of an image, where it is wanted.
+fn left_of(alloc: Global, image: &DriveImage, wanted: bool) -> Result<Option<Vec<u8>>, OutOfMemory>
+    requires { IsDrive image.now }
+    ensures none { wanted ≡ false → IfOk result (λ r. r ≡ None) }
+    ensures some { wanted ≡ true → IfOk result (λ r. IsFile (image_bytes image.now) r) }
 {
     if !wanted {
-        return Ok((images, None));
+        return Ok(None);
     }
-    let (images, file) = file_of(alloc, geometry, images)?;
-    Ok((images, Some(file)))
+    Ok(Some(write_image(alloc, image)?))
 }
 
 /// Commits a text on a fresh drive, cuts the power after `cut` events or at the end, recovers, and
@@ -235,16 +143,12 @@ fn run_text(
         × KeepsLeft wanted text.now cut p r.left) }
 {
     let geometry = text_geometry();
-    let images = commit_fresh(alloc, geometry, text, cut, pick)?;
-    let (kept, left) = left_of(alloc, geometry, images, wanted)?;
-    let (noted, images) = recover_first(alloc, geometry, kept, again, pick)?;
-    let (fuse, queue_seat, root_seat) = power_of_two(alloc, None)?;
-    let seats = (queue_seat, root_seat);
-    let (found, ports) = recover_images(alloc, &fuse, seats, geometry, images, pick)?;
-    let prefix = noted.unwrap_or(found);
-    let marks = live_marks(alloc, text, prefix)?;
-    let live = live_blocks(alloc, geometry, &ports, &marks)?;
-    let output = print_blocks(alloc, prefix, &live)?;
+    let image = commit_fresh(alloc, geometry, text, cut, pick)?;
+    let left = left_of(alloc, &image, wanted)?;
+    let standing = stands_after(alloc, image, again, pick)?;
+    let marks = live_marks(alloc, text, standing.prefix)?;
+    let live = live_blocks(alloc, &standing.blocks, &marks)?;
+    let output = print_blocks(alloc, standing.prefix, &live)?;
     Ok(TextRun { output, left })
 }
 

@@ -8,7 +8,6 @@ mod commit;
 mod items;
 mod line;
 mod live;
-mod power;
 mod restart;
 
 pub use command::run_blocks;

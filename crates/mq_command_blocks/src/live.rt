@@ -1,17 +1,14 @@
 // The blocks that a text leaves, and what stands on them.
 ghost use Rattle.std.specs.Prelude.{◌≡◌, ◌<◌, ◌≤◌, ◌+◌, ℕ, List, length, IfOk, false, slice_index_or};
+ghost use Rattle.mq_blocks.specs.Blocks.{block_at};
 ghost use Rattle.mq_blocks.specs.Machine.{Map};
-ghost use Rattle.mq_command_blocks.specs.Fresh.{IsTextGeometry};
 ghost use Rattle.mq_command_blocks.specs.Lines.{live_from, map_after, named};
 ghost use Rattle.mq_command_blocks.specs.Live.{AreMarks, HoldsMap, marked};
-ghost use Rattle.mq_recover.specs.Drives.{IsQuiescentDrive, drive_of};
 ghost use Rattle.mq_block_text.specs.Text.{AreGoodItems, IsGoodText};
 
 use crate::items::NAMED;
 use mq_block_text::{BlockItem, BlockLine, BlockText};
-use mq_blocks::{Block, BlockNo, Geometry, OutOfMemory};
-use mq_drive::{Port, Ports};
-use mq_recover::read_home;
+use mq_blocks::{Block, BlockNo, OutOfMemory};
 use std::alloc::Global;
 
 // Marks the blocks that a line sets, and takes the marks of those that it frees.
@@ -48,30 +45,37 @@ pub fn live_marks(alloc: Global, text: &BlockText, count: u64) -> Result<Vec<boo
     Ok(marks)
 }
 
+// The first byte of a home block, of which an absent one is zeros.
+fn first_byte(homes: &[Option<Block>], b: usize) -> u8
+    requires { b < length homes.now }
+    ensures { result ≡ slice_index_or (block_at homes.now b) 0 0 }
+{
+    match &homes[b] {
+        Some(block) => block.bytes()[0],
+        None => 0,
+    }
+}
+
 /// The live blocks in rising order of numbers, each with the first byte of its home block.
-pub fn live_blocks<P: Port>(
+pub fn live_blocks(
     alloc: Global,
-    geometry: Geometry,
-    ports: &Ports<P>,
+    homes: &[Option<Block>],
     marks: &[bool],
 ) -> Result<Vec<(BlockNo, u8)>, OutOfMemory>
-    requires geometry { IsTextGeometry geometry }
-    requires still { IsQuiescentDrive geometry (drive_of P.state ports.now) }
+    requires homes { length homes.now ≡ 256 }
     requires marks { length marks.now ≡ 256 }
     ensures { IfOk result (λ v. (m : Map)
         → AreMarks m marks.now
-        → HoldsMap geometry (drive_of P.state ports.now) m
+        → HoldsMap homes.now m
         → v.items ≡ live_from m 0 named) }
 {
     let mut live = Vec::new(alloc);
-    let mut block = Block::zeroed(alloc)?;
     for b in 0..NAMED {
         match marks[b] {
             false => {}
             true => {
-                let number = BlockNo(b as u32);
-                read_home(geometry, ports, number, &mut block);
-                live.push((number, block.bytes()[0]))?;
+                let byte = first_byte(homes, b);
+                live.push((BlockNo(b as u32), byte))?;
             }
         }
     }

@@ -3,10 +3,12 @@ use Rattle.std.proofs.Common.{◌≡◌, ◌≢◌, ◌⊎◌, inl, inr, ℕ, Li
 use Rattle.std.specs.Prelude.{Result, Ok, Err, IfOk, MatchResult, codes}
 use Rattle.mq_blocks.specs.declared.geometry.Geometry.{Geometry}
 use Rattle.mq_blocks.specs.declared.geometry.GeometryRefusal.{GeometryRefusal}
-use Rattle.mq_command_images.specs.Commands.{Formats, RefusesNumbers, SavesAs, SaysOfImage, ShowsFile, formatted, no_file, no_geometry, no_image, not_saved, numbers_of, saved, shown, unsaved, wants_memory}
+use Rattle.mq_command_images.specs.Commands.{Formats, RefusesName, RefusesNumbers, SavesAs, SaysNothing, SaysOfImage, ShowsFile, formatted, is_image, no_file, no_geometry, no_image, not_saved, numbers_of, saved, shown, unsaved, wants_memory}
 use Rattle.mq_command_images.specs.Lines.{file_line, geometry_line, path_line}
 use Rattle.mq_command_images.specs.declared.formatting.Numbers.{Numbers}
 use Rattle.mq_command_io.specs.Ending.{EndsWith, IsLoaded, IsNotLoaded, IsSaved, SaysOf, loaded, memory_line, not_loaded, wanting}
+use Rattle.mq_command_io.proofs.Ending.{not-loaded-same}
+use Rattle.mq_image.specs.Drives.{IsRead}
 use Rattle.mq_image.specs.Faults.{HasFault, Refuses}
 use Rattle.mq_image.specs.File.{DriveImage, image_bytes}
 use Rattle.mq_image_ops.specs.Empty.{IsEmptyDrive}
@@ -59,6 +61,38 @@ says stat words Of name bytes old new before mid after (Err e) result load same 
 pub says-not : (Of : List ℕ → ℕ → List ℕ → Type 0) (name : List ℕ) (old new : FilesState) (before after : SinkState) (result : ℕ) → (status : ℕ) × (text : List ℕ) × IsNotLoaded name old new status text × EndsWith status text result before after
     → (status : ℕ) × (text : List ℕ) × SaysOf Of name old new status text × EndsWith status text result before after
 says-not Of name old new before after result said = (said.0, said.1, not_loaded said.2, said.3)
+
+-- what is said of the image that a name holds
+pub says-of-image : {A E : Type 0} (stat : A → ℕ) (words : A → List ℕ) (Of : DriveImage → ℕ → List ℕ → Type 0) (name : List ℕ) (x : DriveImage) (old new : FilesState) (before mid after : SinkState) (answer : Result A E) (result : ℕ)
+    → (bytes : List ℕ) × IsLoaded name bytes old new × IsRead x bytes → mid ≡ before → IfOk answer (λ a. Of x (stat a) (words a))
+    → MatchResult answer (λ a. EndsWith (stat a) (words a) result mid after) (λ _. EndsWith 6 memory_line result mid after)
+    → (status : ℕ) × (text : List ℕ) × SaysOf (SaysOfImage Of) name old new status text × EndsWith status text result before after
+says-of-image {A} {E} stat words Of name x old new before mid after answer result load same of ends =
+    says stat words (SaysOfImage Of) name load.0 old new before mid after answer result load.1 same (image-of answer of) ends
+  where
+    image-of : (r : Result A E) → IfOk r (λ a. Of x (stat a) (words a)) → IfOk r (λ a. SaysOfImage Of load.0 (stat a) (words a))
+    image-of (Ok a) says = is_image x load.2 says
+    image-of (Err e) says = tt
+
+none-of : (Of : DriveImage → ℕ → List ℕ → Type 0) (bytes : List ℕ) (status : ℕ) (text : List ℕ) → SaysOfImage SaysNothing bytes status text → SaysOfImage Of bytes status text
+none-of Of bytes _ _ (is_image x read nothing) = absurd nothing
+none-of Of bytes _ _ (no_image e has) = no_image e has
+
+name-refused : (Of : DriveImage → ℕ → List ℕ → Type 0) (name : List ℕ) (old new : FilesState) (status : ℕ) (text : List ℕ) → RefusesName name old new status text → SaysOf (SaysOfImage Of) name old new status text
+name-refused Of name old new status text (loaded bytes load none) = loaded bytes load (none-of Of bytes status text none)
+name-refused Of name old new status text (not_loaded not) = not_loaded not
+name-refused Of name old new status text (wanting contents faults six line) = wanting contents faults six line
+
+-- the same where it holds none
+pub says-no-image : (Of : DriveImage → ℕ → List ℕ → Type 0) (name : List ℕ) (old new : FilesState) (before after : SinkState) (result : ℕ) → (status : ℕ) × (text : List ℕ) × RefusesName name old new status text × EndsWith status text result before after
+    → (status : ℕ) × (text : List ℕ) × SaysOf (SaysOfImage Of) name old new status text × EndsWith status text result before after
+says-no-image Of name old new before after result said = (said.0, said.1, name-refused Of name old new said.0 said.1 said.2, said.3)
+
+-- then the names hold what they held
+pub name-same : (name : List ℕ) (old new : FilesState) (status : ℕ) (text : List ℕ) → RefusesName name old new status text → new.contents ≡ old.contents
+name-same name old new status text (loaded bytes load none) = load.contents
+name-same name old new status text (not_loaded not) = not-loaded-same name old new status text not
+name-same name old new status text (wanting contents faults six line) = contents
 
 -- a tree that is alike is read alike
 pub reads-along : (t v : Volume) (path : Path) (r : Result (List ℕ) Fault) → IsAlike t v → ReadsAs t path r → ReadsAs v path r

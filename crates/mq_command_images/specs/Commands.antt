@@ -6,7 +6,7 @@ use Rattle.mq_blocks.specs.declared.geometry.GeometryRefusal.{GeometryRefusal}
 use Rattle.mq_blocks.specs.declared.geometry.GeometryRefusal.TheVariants.{Queues, Area, Homes}
 use Rattle.mq_command_images.specs.declared.formatting.Numbers.{Numbers}
 use Rattle.mq_command_images.specs.Lines.{drive_line, file_line, geometry_line, path_line, volume_line}
-use Rattle.mq_command_io.specs.Ending.{IsNotSaved, IsSaved, memory_line}
+use Rattle.mq_command_io.specs.Ending.{IsNotSaved, IsSaved, SaysOf, memory_line}
 use Rattle.mq_image.specs.Drives.{IsRead}
 use Rattle.mq_image.specs.Faults.{HasFault}
 use Rattle.mq_image.specs.File.{DriveImage, image_bytes}
@@ -51,6 +51,14 @@ pub data ShowsFile (path : Path) (x : DriveImage) : (status : ℕ) → (text : L
 pub data Dumps (x : DriveImage) : (status : ℕ) → (text : List ℕ) → Type 0 where
   dumped : (text : List ℕ) → IsDump x text → Dumps x 0 text
   not_dumped : (e : ImageFault) → RefusesDrive x e → Dumps x 3 (drive_line e)
+
+-- nothing is to be said of an image
+abbrev pub SaysNothing : DriveImage → (status : ℕ) → (text : List ℕ) → Type 0
+SaysNothing x status text = ⊥
+
+-- the name is not loaded, or its bytes are those of no image
+abbrev pub RefusesName : (name : List ℕ) → (old new : FilesState) → (status : ℕ) → (text : List ℕ) → Type 0
+RefusesName name old new status text = SaysOf (SaysOfImage SaysNothing) name old new status text
 
 -- ---- saves
 

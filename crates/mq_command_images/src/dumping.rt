@@ -13,11 +13,11 @@ ghost use Rattle.mq_image_ops.specs.Views.{view_of};
 ghost use Rattle.mq_outside.specs.Outside.{Tells};
 ghost use Rattle.mq_recover.specs.declared.refusal.ImageFault.{ImageFault};
 
-use crate::answer::{Answer, refuse_drive, refuse_file, say_answer};
-use crate::loading::read_loaded;
+use crate::answer::{Answer, refuse_drive, say_answer};
+use crate::loading::load_image;
 use mq_blocks::OutOfMemory;
-use mq_command_io::{DONE, load_or_say};
-use mq_image::{DriveImage, written_images_are_read};
+use mq_command_io::DONE;
+use mq_image::DriveImage;
 use mq_image_ops::dump_image;
 use mq_outside::{Files, Sink};
 use std::alloc::Global;
@@ -30,17 +30,6 @@ fn dump_drive(alloc: Global, image: DriveImage) -> Result<Answer, OutOfMemory>
     match dump_image(alloc, image) {
         Ok(text) => Ok(Answer { status: DONE, text }),
         Err(fault) => refuse_drive(alloc, fault),
-    }
-}
-
-// What `dump` says of the bytes of a file.
-fn dump_bytes(alloc: Global, bytes: Vec<u8>) -> Result<Answer, OutOfMemory>
-    ensures { IfOk result (λ a. SaysOfImage Dumps bytes.items a.status a.text.items) }
-{
-    written_images_are_read();
-    match read_loaded(alloc, bytes) {
-        Ok(image) => dump_drive(alloc, image),
-        Err(fault) => refuse_file(alloc, fault),
     }
 }
 
@@ -66,8 +55,8 @@ pub fn dump<F: Files, K: Sink>(alloc: Global, name: &str, files: &mut F, out: &m
         → IsUnlessFailed 3 result }
     ensures contents { (F.state files.new).contents ≡ (F.state files.old).contents }
 {
-    match load_or_say(alloc, name, files, out) {
-        Ok(bytes) => say_answer(dump_bytes(alloc, bytes), out),
+    match load_image(alloc, name, files, out) {
+        Ok(image) => say_answer(dump_drive(alloc, image), out),
         Err(status) => status,
     }
 }

@@ -10,9 +10,9 @@ mod loading;
 mod names;
 mod recovering;
 
-pub use answer::{Answer, refuse_file, refuse_volume, say_answer};
+pub use answer::{Answer, refuse_volume, say_answer};
 pub use dumping::dump;
 pub use formatting::{Numbers, format};
 pub use listing::{cat, ls};
-pub use loading::read_loaded;
+pub use loading::load_image;
 pub use recovering::recover;

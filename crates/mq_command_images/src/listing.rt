@@ -12,11 +12,11 @@ ghost use Rattle.mq_tree.specs.Trees.{ReadsAs};
 ghost use Rattle.mq_tree.specs.Volume.{Volume};
 ghost use Rattle.mq_tree.specs.declared.request.Fault.{Fault};
 
-use crate::answer::{Answer, refuse_file, refuse_path, refuse_volume, say_answer};
-use crate::loading::read_loaded;
+use crate::answer::{Answer, refuse_path, refuse_volume, say_answer};
+use crate::loading::load_image;
 use mq_blocks::OutOfMemory;
-use mq_command_io::{DONE, load_or_say};
-use mq_image::{DriveImage, written_images_are_read};
+use mq_command_io::DONE;
+use mq_image::DriveImage;
 use mq_image_ops::{list_volume, read_volume};
 use mq_outside::{Files, Sink};
 use mq_tree::Path;
@@ -30,17 +30,6 @@ fn list_image(alloc: Global, image: DriveImage) -> Result<Answer, OutOfMemory>
     match list_volume(alloc, image) {
         Ok(text) => Ok(Answer { status: DONE, text }),
         Err(refusal) => refuse_volume(alloc, refusal),
-    }
-}
-
-// What `ls` says of the bytes of a file.
-fn list_bytes(alloc: Global, bytes: Vec<u8>) -> Result<Answer, OutOfMemory>
-    ensures { IfOk result (λ a. SaysOfImage Lists bytes.items a.status a.text.items) }
-{
-    written_images_are_read();
-    match read_loaded(alloc, bytes) {
-        Ok(image) => list_image(alloc, image),
-        Err(fault) => refuse_file(alloc, fault),
     }
 }
 
@@ -66,8 +55,8 @@ pub fn ls<F: Files, K: Sink>(alloc: Global, name: &str, files: &mut F, out: &mut
         → IsUnlessFailed 3 result }
     ensures contents { (F.state files.new).contents ≡ (F.state files.old).contents }
 {
-    match load_or_say(alloc, name, files, out) {
-        Ok(bytes) => say_answer(list_bytes(alloc, bytes), out),
+    match load_image(alloc, name, files, out) {
+        Ok(image) => say_answer(list_image(alloc, image), out),
         Err(status) => status,
     }
 }
@@ -87,17 +76,6 @@ fn show_image(alloc: Global, image: DriveImage, path: &Path) -> Result<Answer, O
             text: Vec::from_slice(alloc, bytes)?,
         }),
         Err(fault) => refuse_path(alloc, fault),
-    }
-}
-
-// What `cat` says of the bytes of a file.
-fn show_bytes(alloc: Global, bytes: Vec<u8>, path: &Path) -> Result<Answer, OutOfMemory>
-    ensures { IfOk result (λ a. SaysOfImage (ShowsFile path.now) bytes.items a.status a.text.items) }
-{
-    written_images_are_read();
-    match read_loaded(alloc, bytes) {
-        Ok(image) => show_image(alloc, image, path),
-        Err(fault) => refuse_file(alloc, fault),
     }
 }
 
@@ -137,8 +115,8 @@ pub fn cat<F: Files, K: Sink>(
         → IsUnlessFailed 3 result }
     ensures contents { (F.state files.new).contents ≡ (F.state files.old).contents }
 {
-    match load_or_say(alloc, name, files, out) {
-        Ok(bytes) => say_answer(show_bytes(alloc, bytes, path), out),
+    match load_image(alloc, name, files, out) {
+        Ok(image) => say_answer(show_image(alloc, image, path), out),
         Err(status) => status,
     }
 }

@@ -5,8 +5,8 @@ use Rattle.std.specs.Prelude.{IfOk, MatchResult, Result}
 use Rattle.mq_blocks.specs.Descriptor.{Descriptor}
 use Rattle.mq_blocks.specs.Geometry.{queues_of}
 use Rattle.mq_command_run.specs.Lines.{script_line, scripts_line}
-use Rattle.mq_command_images.specs.Commands.{SaysOfImage}
-use Rattle.mq_command_run.specs.RunsScripts.{AreLoaded, HoldBadScript, HoldScripts, IsRunAs, IsScriptIn, RefusesName, RefusesRunning, RefusesScript, RefusesScripts, Runs, SaysNothing, are_wanting, no_image, no_run, no_scripts, not_loaded, not_run, ran, refused, run_status, run_text, too_many, unsaved, wanting}
+use Rattle.mq_command_images.specs.Commands.{RefusesName, SaysNothing, SaysOfImage}
+use Rattle.mq_command_run.specs.RunsScripts.{AreLoaded, HoldBadScript, HoldScripts, IsRunAs, IsScriptIn, RefusesRunning, RefusesScript, RefusesScripts, Runs, are_wanting, no_image, no_run, no_scripts, not_loaded, not_run, ran, refused, run_status, run_text, too_many, unsaved, wanting}
 use Rattle.mq_command_run.specs.RunsScripts as runs
 use Rattle.mq_command_io.specs.Ending.{EndsWith, IsLoaded, IsNotSaved, IsSaved, IsUnlessFailed, memory_line}
 use Rattle.mq_command_io.proofs.Ending.{not-loaded-status, not-saved-status, still-memory, unless_wanting}

@@ -4,10 +4,10 @@ use Rattle.mq_blocks.specs.Geometry.{queues_of}
 use Rattle.mq_calls.specs.declared.answers.CallCause.{CallCause}
 use Rattle.mq_calls.specs.declared.answers.CallCause.TheVariants as cause
 use Rattle.mq_calls.specs.declared.answers.Refusal.{Refusal}
-use Rattle.mq_command_images.specs.Commands.{SaysOfImage}
+use Rattle.mq_command_images.specs.Commands.{RefusesName}
 use Rattle.mq_command_images.specs.Lines.{volume_line}
 use Rattle.mq_command_run.specs.Lines.{script_line, scripts_line}
-use Rattle.mq_command_io.specs.Ending.{IsLoaded, IsNotLoaded, IsNotSaved, IsSaved, SaysOf, memory_line}
+use Rattle.mq_command_io.specs.Ending.{IsLoaded, IsNotLoaded, IsNotSaved, IsSaved, memory_line}
 use Rattle.mq_image.specs.Drives.{IsRead}
 use Rattle.mq_image.specs.File.{DriveImage, image_bytes}
 use Rattle.mq_image_run.specs.Refusals.{RefusesRun}
@@ -107,14 +107,6 @@ IsRunAs x scripts o file status text =
     × IsRunFile r file status text
 
 -- ---- what there is to say
-
--- of an image alone
-abbrev pub SaysNothing : DriveImage → (status : ℕ) → (text : List ℕ) → Type 0
-SaysNothing x status text = ⊥
-
--- the name is not loaded, or its bytes are those of no image
-abbrev pub RefusesName : (name : List ℕ) → (old new : FilesState) → (status : ℕ) → (text : List ℕ) → Type 0
-RefusesName name old new status text = SaysOf (SaysOfImage SaysNothing) name old new status text
 
 -- The image that the name held was recovered, the scripts that the other names held were run on it, and the
 -- name holds what that left. What is reported of it is a legal list with the answers of its lines, and what

@@ -3,7 +3,7 @@ ghost use Rattle.std.specs.Prelude.{◌≡◌, ◌≢◌, ◌⊎◌, ◌<◌, �
 ghost use Rattle.std.specs.Option.{ForSome};
 ghost use Rattle.mq_blocks.specs.Descriptor.{Descriptor};
 ghost use Rattle.mq_blocks.specs.Geometry.{queues_of};
-ghost use Rattle.mq_command_run.specs.RunsScripts.{AreLoaded, HoldBadScript, HoldScripts, IsRunAs, IsRunFile, IsScriptIn, RefusesName, RefusesRunning, RefusesScript, RefusesScripts, Runs, are_wanting, is_wanting, run_status};
+ghost use Rattle.mq_command_run.specs.RunsScripts.{AreLoaded, HoldBadScript, HoldScripts, IsRunAs, IsRunFile, IsScriptIn, RefusesRunning, RefusesScript, RefusesScripts, Runs, are_wanting, is_wanting, run_status};
 ghost use Rattle.mq_command_io.specs.Ending.{EndsWith, IsLoaded, IsNotSaved, IsSaved, IsUnlessFailed};
 ghost use Rattle.mq_image.specs.Drives.{IsDrive, IsRead};
 ghost use Rattle.mq_image.specs.Faults.{HasFault};
@@ -18,9 +18,9 @@ ghost use Rattle.mq_tree.specs.Volume.{Volume};
 use crate::refusals::{refuse_script, refuse_scripts};
 use mq_blocks::OutOfMemory;
 use mq_calls::{CallCause, Gate, Refusal};
-use mq_command_images::{Answer, read_loaded, refuse_file, refuse_volume, say_answer};
+use mq_command_images::{Answer, load_image, refuse_volume, say_answer};
 use mq_command_io::{COMMAND, DONE, NO_MEMORY, load_or_say, save_or_say, say, say_memory};
-use mq_image::{DriveImage, write_image, written_images_are_read};
+use mq_image::{DriveImage, write_image};
 use mq_image_run::{ImageRun, RunOptions, run_image};
 use mq_outside::{Files, Sink};
 use mq_report::{Told, report};
@@ -37,33 +37,6 @@ struct RunFile {
 }
 
 // ---- what is loaded
-
-// The image that a name holds; where there is none, why is said, and the status answered.
-fn load_image<F: Files, K: Sink>(
-    alloc: Global,
-    name: &str,
-    files: &mut F,
-    out: &mut K,
-) -> Result<DriveImage, u8>
-    ensures ok { IfOk result (λ x. (bytes : List ℕ)
-        × IsLoaded name.now bytes (F.state files.old) (F.state files.new)
-        × IsRead x bytes) }
-    ensures silent { IfOk result (λ _. K.state out.new ≡ K.state out.old) }
-    ensures refused { IfErr result (λ s. (status : ℕ)
-        × (text : List ℕ)
-        × RefusesName name.now (F.state files.old) (F.state files.new) status text
-        × EndsWith status text s (K.state out.old) (K.state out.new)) }
-{
-    written_images_are_read();
-    let bytes = match load_or_say(alloc, name, files, out) {
-        Ok(bytes) => bytes,
-        Err(status) => return Err(status),
-    };
-    match read_loaded(alloc, bytes) {
-        Ok(image) => Ok(image),
-        Err(fault) => Err(say_answer(refuse_file(alloc, fault), out)),
-    }
-}
 
 // Appends the script that a name holds; where there is none, why is said, and the status answered.
 fn load_script<F: Files, K: Sink>(

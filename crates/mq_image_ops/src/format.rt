@@ -1,10 +1,10 @@
-// The image of a fresh drive that holds the empty file system.
+// The image of a fresh drive: one of zeros, and one that holds the empty file system.
 ghost use Rattle.std.specs.Prelude.{◌≡◌, ◌<◌, ◌≤◌, ◌+◌, ℕ, [], ◌∷◌, length, IfOk, None, slice_index_or};
 ghost use Rattle.mq_blocks.specs.Limits.{depth};
 ghost use Rattle.mq_blocks.specs.Blocks.{block_at};
 ghost use Rattle.mq_blocks.specs.Geometry.{area_of, homes_of, meta_of, queues_of, zone_size};
 ghost use Rattle.mq_drive.specs.Roles.{slots_of};
-ghost use Rattle.mq_image_ops.specs.Empty.{AreBlankQueues, IsBlankQueue, IsEmptyDrive, IsUnused};
+ghost use Rattle.mq_image_ops.specs.Empty.{AreBlankQueues, IsBlankDrive, IsBlankQueue, IsEmptyDrive, IsFreshRoot, IsUnused};
 ghost use Rattle.mq_layout.specs.Empty.{empty_block};
 ghost use Rattle.mq_nvme.specs.Entry.{blank};
 
@@ -23,16 +23,35 @@ pub fn format_drive(alloc: Global, geometry: Geometry) -> Result<DriveImage, Out
     ensures is { IfOk result (IsEmptyDrive geometry) }
 {
     let mut ports = blank_queues(alloc, geometry)?;
-    ports.push(PortImage {
+    let blocks = meta_blocks(alloc, geometry)?;
+    ports.push(fresh_root(alloc, blocks))?;
+    let image = DriveImage { geometry, ports };
+    an_image_fits_its_file(&image);
+    Ok(image)
+}
+
+/// The image of a fresh drive of zeros: each of its blocks is absent.
+pub fn blank_drive(alloc: Global, geometry: Geometry) -> Result<DriveImage, OutOfMemory>
+    ensures is { IfOk result (IsBlankDrive geometry) }
+{
+    let mut ports = blank_queues(alloc, geometry)?;
+    let blocks = absent_blocks(alloc, geometry.meta())?;
+    ports.push(fresh_root(alloc, blocks))?;
+    Ok(DriveImage { geometry, ports })
+}
+
+// The root's port on which nothing has happened, with these home blocks.
+fn fresh_root(alloc: Global, blocks: Vec<Option<Block>>) -> PortImage
+    ensures is { (g : _) → length blocks.items ≡ meta_of g → IsFreshRoot g result }
+    ensures blocks { result.blocks ≡ blocks.items }
+{
+    PortImage {
         doorbell: 0,
         head: 0,
         base: 0,
         slots: Vec::new(alloc),
-        blocks: meta_blocks(alloc, geometry)?,
-    })?;
-    let image = DriveImage { geometry, ports };
-    an_image_fits_its_file(&image);
-    Ok(image)
+        blocks,
+    }
 }
 
 // The image of each queue's port.

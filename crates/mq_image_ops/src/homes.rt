@@ -26,9 +26,9 @@ pub fn read_standing(alloc: Global, image: DriveImage) -> Result<Vec<Option<Bloc
     Ok(take_homes(recovered.image)?)
 }
 
-// The home blocks of an image, in rising order of numbers. The boxes are moved, and the rest of the image
-// is dropped.
-fn take_homes(image: DriveImage) -> Result<Vec<Option<Block>>, OutOfMemory>
+/// The home blocks of an image, in rising order of numbers; an absent one is zeros. The boxes are moved, and
+/// the rest of the image is dropped.
+pub fn take_homes(image: DriveImage) -> Result<Vec<Option<Block>>, OutOfMemory>
     requires { IsDrive image }
     ensures { IfOk result (λ blocks. blocks.items ≡ home_blocks image) }
 {

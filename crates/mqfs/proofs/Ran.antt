@@ -1,8 +1,8 @@
 -- `run` ends with 0 or 5 only where the scripts were run, the image was saved and the report was said.
 use Rattle.std.proofs.Common.{◌≡◌, ◌⊎◌, inl, inr, ℕ, List, [], ◌∷◌, Option, Some, refl, sym, ◌∙◌, subst, arith}
-use Rattle.mq_command_images.specs.Commands.{SaysOfImage, is_image}
+use Rattle.mq_command_images.specs.Commands.{SaysNothing, SaysOfImage, is_image}
 use Rattle.mq_command_images.specs.Commands as commands
-use Rattle.mq_command_run.specs.RunsScripts.{RefusesRunning, RefusesScript, RefusesScripts, Runs, SaysNothing, no_image, no_run, no_scripts, not_loaded, not_run, ran, refused, too_many, unsaved, wanting}
+use Rattle.mq_command_run.specs.RunsScripts.{RefusesRunning, RefusesScript, RefusesScripts, Runs, no_image, no_run, no_scripts, not_loaded, not_run, ran, refused, too_many, unsaved, wanting}
 use Rattle.mq_command_run.specs.RunsScripts as runs
 use Rattle.mq_command_io.specs.Ending.{EndsWith, IsNotLoaded, IsNotSaved, SaysOf, load_failed, load_memory, load_too_long, save_failed, save_memory}
 use Rattle.mq_command_io.specs.Ending as ending

@@ -13,27 +13,17 @@ ghost use Rattle.mqfs.specs.Program.{AreUnknown, IsDone, IsEndedRun, IsRefusedTe
 ghost use Rattle.mqfs.specs.Ran.{IsRan};
 ghost use Rattle.mqfs.specs.Says.{Says, asked_workload};
 
-mod cat;
-mod dump;
-mod format;
 mod help;
-mod ls;
-mod recover;
 mod scripts;
 mod workload;
 
-use self::cat::run_cat;
-use self::dump::run_dump;
-use self::format::run_format;
 use self::help::{say_help, say_version};
-use self::ls::run_ls;
-use self::recover::run_recover;
 use self::scripts::run_script_files;
 use self::workload::run_workload;
 use mq_calls::Gate;
 use mq_cli::{Command, WordsRefusal, read_command};
 use mq_command_blocks::run_blocks;
-use mq_command_images::Numbers;
+use mq_command_images::{Numbers, cat, dump, format, ls, recover};
 use mq_command_io::{USAGE, say, say_memory};
 use mq_outside::{Files, Sink};
 use mq_run_laws::every_interleaving_is_recovered;
@@ -44,7 +34,7 @@ use std::thread::Threads;
 // The line of the words that are no command.
 const USAGE_LINE: &[u8] = b"usage: mqfs blocks|format|run|recover|ls|cat|gen|dump\n";
 
-// Runs a command.
+// Runs a command. Draws of `recover` come from 0 where no pick is given.
 fn run<F: Files, K: Sink, R: Threads + Wait + Sync, G: Gate + Sync>(
     rt: &R,
     alloc: Global,
@@ -84,23 +74,25 @@ fn run<F: Files, K: Sink, R: Threads + Wait + Sync, G: Gate + Sync>(
                 meta,
                 zone,
             };
-            run_format(alloc, image, numbers, files, out)
+            format(alloc, image, numbers, files, out)
         }
         Command::Run {
             image,
             scripts,
             options,
         } => run_script_files(rt, alloc, image, &scripts, options, files, out, gate),
-        Command::Recover { image, cut, pick } => run_recover(alloc, image, cut, pick, files, out),
-        Command::Ls { image } => run_ls(alloc, image, files, out),
-        Command::Cat { image, path } => run_cat(alloc, image, &path, files, out),
+        Command::Recover { image, cut, pick } => {
+            recover(alloc, image, cut, pick.unwrap_or(0), files, out)
+        }
+        Command::Ls { image } => ls(alloc, image, files, out),
+        Command::Cat { image, path } => cat(alloc, image, &path, files, out),
         Command::Gen {
             seed,
             threads,
             groups,
             save,
         } => run_workload(rt, alloc, seed, threads, groups, save, files, out, gate),
-        Command::Dump { image } => run_dump(alloc, image, files, out),
+        Command::Dump { image } => dump(alloc, image, files, out),
         Command::Help(topic) => say_help(topic, out),
         Command::Version => say_version(out),
     }

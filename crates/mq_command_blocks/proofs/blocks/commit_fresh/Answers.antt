@@ -1,34 +1,34 @@
-use Rattle.std.proofs.Common.{◌≡◌, ◌++◌, ℕ, List, [], ◌∷◌, Option, subst, ap, ◌∙◌}
-use Rattle.mq_drive.specs.Seats.{name_of, tickets_of}
+use Rattle.std.proofs.Common.{◌≡◌, ℕ, List, [], ◌∷◌, Option, All, length, sym, ◌∙◌, ap, subst, arith}
+use Rattle.mq_blocks.specs.Drive.{FuseName, PortImage}
+use Rattle.mq_drive.specs.Seats.{fuse_of, name_of, tickets_of}
 use Rattle.mq_drive.specs.declared.fuse.FuseSeat.{FuseSeat}
 use Rattle.mq_command_blocks.specs.Cuts.{StandsUnder}
-use Rattle.mq_command_blocks.proofs.CutsTexts.{IsClosed, is_closed, prefix_stand, doorbell_under}
+use Rattle.mq_command_blocks.specs.Left.{IsLeft}
+use Rattle.mq_command_blocks.proofs.CutsTexts.{IsClosed, doorbell_under, is_closed, prefix_stand}
+use Rattle.mq_command_blocks.proofs.Left.{is_left, two_seats}
 use Rattle.mq_command_blocks.proofs.blocks.commit_fresh.Goals as goal
 
-pub returns-clause-shows : goal.returns-clause-shows
-returns-clause-shows c =
-    let q : FuseSeat = c.in_ok-queue.queue.1 in
-    let r : FuseSeat = c.in_ok-queue.root.1 in
-    let shown = c.in_ok-queue.ensures.shows in
-    let limit : (name_of c.in_ok-fuse.fuse).limit ≡ c.args.cut = c.in_ok-fuse.ensures.fuse.0 in
-    let seats : c.push-2.new.self.items ≡ q ∷ r ∷ [] =
-    c.in_ok-push-2.ensures.items ∙ ap (λ (l : List FuseSeat). l ++ r ∷ []) (c.in_ok-push.ensures.items ∙ ap (λ (l : List FuseSeat). l ++ q ∷ []) c.in_ok-seats.ensures.items) in
-    let closed : IsClosed c.args.cut (tickets_of q) c.close.result =
-    is_closed c.args.cut (name_of c.in_ok-fuse.fuse) c.push-2.new.self.items q r c.close.result limit seats c.in_ok-queue.ensures.root_seat.1 c.close.ensures.happened c.close.ensures.most c.close.ensures.off in
-    let stands : StandsUnder c.args.text.now c.args.cut (tickets_of q) c.in_ok-queue.queue.0.doorbell shown.0 =
-    subst (λ (o : Option ℕ). StandsUnder c.args.text.now o (tickets_of q) c.in_ok-queue.queue.0.doorbell shown.0) limit shown.1 in
-    (shown.0, prefix_stand c.args.text.now c.args.cut (tickets_of q) c.in_ok-queue.queue.0.doorbell shown.0 c.close.result stands closed, shown.2)
+pub close-requires-clause-fuse : goal.close-requires-clause-fuse
+close-requires-clause-fuse c =
+    let t = c.in_ok-left.ensures.stands in
+    two_seats (name_of c.in_ok-fuse.fuse) t.queue_seat t.root_seat c.in_ok-left.left.seats.items t.seats_are t.queue_own t.root_own
 
-pub returns-clause-doorbell : goal.returns-clause-doorbell
-returns-clause-doorbell c =
-    let q : FuseSeat = c.in_ok-queue.queue.1 in
-    let r : FuseSeat = c.in_ok-queue.root.1 in
-    let shown = c.in_ok-queue.ensures.shows in
-    let limit : (name_of c.in_ok-fuse.fuse).limit ≡ c.args.cut = c.in_ok-fuse.ensures.fuse.0 in
-    let seats : c.push-2.new.self.items ≡ q ∷ r ∷ [] =
-    c.in_ok-push-2.ensures.items ∙ ap (λ (l : List FuseSeat). l ++ r ∷ []) (c.in_ok-push.ensures.items ∙ ap (λ (l : List FuseSeat). l ++ q ∷ []) c.in_ok-seats.ensures.items) in
-    let closed : IsClosed c.args.cut (tickets_of q) c.close.result =
-    is_closed c.args.cut (name_of c.in_ok-fuse.fuse) c.push-2.new.self.items q r c.close.result limit seats c.in_ok-queue.ensures.root_seat.1 c.close.ensures.happened c.close.ensures.most c.close.ensures.off in
-    let stands : StandsUnder c.args.text.now c.args.cut (tickets_of q) c.in_ok-queue.queue.0.doorbell shown.0 =
-    subst (λ (o : Option ℕ). StandsUnder c.args.text.now o (tickets_of q) c.in_ok-queue.queue.0.doorbell shown.0) limit shown.1 in
-    doorbell_under c.args.text.now c.args.cut (tickets_of q) c.in_ok-queue.queue.0.doorbell shown.0 c.close.result stands closed
+pub close-requires-clause-all : goal.close-requires-clause-all
+close-requires-clause-all c =
+    let t = c.in_ok-left.ensures.stands in
+    let long = ap length t.seats_are in
+    let one = c.requires.geometry.queues in
+    let ports = c.in_ok-fuse.ensures.fuse.1 in
+    omega (arith, long, one, ports)
+
+pub returns : goal.returns
+returns c =
+    let lines = c.args.text.now in
+    let cut = c.args.cut in
+    let t = c.in_ok-left.ensures.stands in
+    let limit : (name_of c.in_ok-fuse.fuse).limit ≡ cut = c.in_ok-fuse.ensures.fuse.0 in
+    let closed : IsClosed cut (tickets_of t.queue_seat) c.close.result =
+    is_closed cut (name_of c.in_ok-fuse.fuse) c.in_ok-left.left.seats.items t.queue_seat t.root_seat c.close.result limit t.seats_are t.idle c.close.ensures.happened c.close.ensures.most c.close.ensures.off in
+    let stands : StandsUnder lines cut (tickets_of t.queue_seat) t.queue.doorbell t.p = subst (λ (o : Option ℕ). StandsUnder lines o (tickets_of t.queue_seat) t.queue.doorbell t.p) limit t.stands in
+    let left = is_left lines cut t.p c.args.geometry t.queue t.root c.requires.geometry t.queue_image t.root_image t.shows (doorbell_under lines cut (tickets_of t.queue_seat) t.queue.doorbell t.p c.close.result stands closed) in
+    (t.p, prefix_stand lines cut (tickets_of t.queue_seat) t.queue.doorbell t.p c.close.result stands closed, subst (λ (l : List PortImage). IsLeft lines cut t.p (record { geometry = c.args.geometry; ports = l })) (sym t.images_are) left)

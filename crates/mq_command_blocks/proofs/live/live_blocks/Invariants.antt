@@ -1,4 +1,3 @@
-use Rattle.mq_recover.specs.Drives.{drive_of}
 use Rattle.std.proofs.Common.{◌≡◌, ◌-◌, ◌++◌}
 use Rattle.mq_blocks.specs.Machine.{Map}
 use Rattle.mq_command_blocks.specs.Lines.{live_from, named}
@@ -6,5 +5,5 @@ use Rattle.mq_command_blocks.specs.Live.{AreMarks, HoldsMap}
 use Rattle.mq_command_blocks.proofs.live.live_blocks.Given as goal
 
 abbrev pub invariant-loop-b : goal.invariant-loop-b
-invariant-loop-b g l =
-    (m : Map) → AreMarks m l.marks → HoldsMap l.geometry (drive_of g.P.Port.state l.ports) m → live_from m 0 named ≡ l.live.items ++ live_from m l.b (named - l.b)
+invariant-loop-b l =
+    (m : Map) → AreMarks m l.marks → HoldsMap l.homes m → live_from m 0 named ≡ l.live.items ++ live_from m l.b (named - l.b)

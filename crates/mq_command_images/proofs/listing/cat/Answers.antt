@@ -1,77 +1,79 @@
-use Rattle.mq_command_images.specs.Commands.{ShowsFile, SaysOfImage}
+use Rattle.mq_command_images.specs.Commands.{ShowsFile}
 use Rattle.mq_command_images.specs.declared.answer.Answer.{Answer}
 use Rattle.mq_command_images.proofs.CommandsExact.{no-file-where, not-shown-where, refused-where, shown-where}
-use Rattle.mq_command_images.proofs.CommandsSaying.{says, says-not}
-use Rattle.mq_command_io.proofs.Ending.{not-loaded-same}
+use Rattle.mq_command_images.proofs.CommandsSaying.{name-same, says-no-image, says-of-image}
 use Rattle.mq_command_images.proofs.listing.cat.Goals as goal
+
+pub show_image-requires : goal.show_image-requires
+show_image-requires g c = c.in-Ok.ensures.ok.2.drive
 
 pub returns-in-Ok-clause-ends : goal.returns-in-Ok-clause-ends
 returns-in-Ok-clause-ends g c =
     let files = g.F.Files.state in
     let sink = g.K.Sink.state in
-    says (λ (a : Answer). a.status) (λ (a : Answer). a.text.items) (SaysOfImage (ShowsFile c.args.path.now)) c.args.name.now c.in-Ok.bytes.items (files c.args.files.now) (files c.load_or_say.new.files) (sink c.args.out.now) (sink c.load_or_say.new.out) (sink c.say_answer.new.out) c.show_bytes.result c.say_answer.result
+    says-of-image (λ (a : Answer). a.status) (λ (a : Answer). a.text.items) (ShowsFile c.args.path.now) c.args.name.now c.in-Ok.image (files c.args.files.now) (files c.load_image.new.files) (sink c.args.out.now) (sink c.load_image.new.out) (sink c.say_answer.new.out) c.show_image.result c.say_answer.result
     c.in-Ok.ensures.ok
-    c.in-Ok.ensures.silent c.show_bytes.ensures c.say_answer.ensures
+    c.in-Ok.ensures.silent c.show_image.ensures c.say_answer.ensures
 
 pub returns-in-Ok-clause-contents : goal.returns-in-Ok-clause-contents
-returns-in-Ok-clause-contents g c = c.in-Ok.ensures.ok.contents
+returns-in-Ok-clause-contents g c = c.in-Ok.ensures.ok.1.contents
 
 pub returns-in-Err-clause-ends : goal.returns-in-Err-clause-ends
 returns-in-Err-clause-ends g c =
     let files = g.F.Files.state in
     let sink = g.K.Sink.state in
-    says-not (SaysOfImage (ShowsFile c.args.path.now)) c.args.name.now (files c.args.files.now) (files c.load_or_say.new.files) (sink c.args.out.now) (sink c.load_or_say.new.out) c.in-Err.status c.in-Err.ensures.refused
+    says-no-image (ShowsFile c.args.path.now) c.args.name.now (files c.args.files.now) (files c.load_image.new.files) (sink c.args.out.now) (sink c.load_image.new.out) c.in-Err.status c.in-Err.ensures.refused
 
 pub returns-in-Err-clause-contents : goal.returns-in-Err-clause-contents
 returns-in-Err-clause-contents g c =
     let files = g.F.Files.state in
     let refused = c.in-Err.ensures.refused in
-    not-loaded-same c.args.name.now (files c.args.files.now) (files c.load_or_say.new.files) refused.0 refused.1 refused.2
+    name-same c.args.name.now (files c.args.files.now) (files c.load_image.new.files) refused.0 refused.1 refused.2
 
 pub returns-in-Ok-clause-done_where : goal.returns-in-Ok-clause-done_where
 returns-in-Ok-clause-done_where g c = λ bytes x v content tells read for reads.
     let files = g.F.Files.state in
     let sink = g.K.Sink.state in
-    shown-where c.args.path.now c.args.name.now bytes x v content (files c.args.files.now) (files c.load_or_say.new.files) (sink c.args.out.now) (sink c.say_answer.new.out) c.say_answer.result (returns-in-Ok-clause-ends g c) tells read for reads
+    shown-where c.args.path.now c.args.name.now bytes x v content (files c.args.files.now) (files c.load_image.new.files) (sink c.args.out.now) (sink c.say_answer.new.out) c.say_answer.result (returns-in-Ok-clause-ends g c) tells read for reads
 
 pub returns-in-Err-clause-done_where : goal.returns-in-Err-clause-done_where
 returns-in-Err-clause-done_where g c = λ bytes x v content tells read for reads.
     let files = g.F.Files.state in
     let sink = g.K.Sink.state in
-    shown-where c.args.path.now c.args.name.now bytes x v content (files c.args.files.now) (files c.load_or_say.new.files) (sink c.args.out.now) (sink c.load_or_say.new.out) c.in-Err.status (returns-in-Err-clause-ends g c) tells read for reads
+    shown-where c.args.path.now c.args.name.now bytes x v content (files c.args.files.now) (files c.load_image.new.files) (sink c.args.out.now) (sink c.load_image.new.out) c.in-Err.status (returns-in-Err-clause-ends g c) tells read for reads
 
 pub returns-in-Ok-clause-no_file_where : goal.returns-in-Ok-clause-no_file_where
 returns-in-Ok-clause-no_file_where g c = λ bytes x v fault tells read for reads.
     let files = g.F.Files.state in
     let sink = g.K.Sink.state in
-    no-file-where c.args.path.now c.args.name.now bytes x v fault (files c.args.files.now) (files c.load_or_say.new.files) (sink c.args.out.now) (sink c.say_answer.new.out) c.say_answer.result (returns-in-Ok-clause-ends g c) tells read for reads
+    no-file-where c.args.path.now c.args.name.now bytes x v fault (files c.args.files.now) (files c.load_image.new.files) (sink c.args.out.now) (sink c.say_answer.new.out) c.say_answer.result (returns-in-Ok-clause-ends g c) tells read for reads
 
 pub returns-in-Err-clause-no_file_where : goal.returns-in-Err-clause-no_file_where
 returns-in-Err-clause-no_file_where g c = λ bytes x v fault tells read for reads.
     let files = g.F.Files.state in
     let sink = g.K.Sink.state in
-    no-file-where c.args.path.now c.args.name.now bytes x v fault (files c.args.files.now) (files c.load_or_say.new.files) (sink c.args.out.now) (sink c.load_or_say.new.out) c.in-Err.status (returns-in-Err-clause-ends g c) tells read for reads
+    no-file-where c.args.path.now c.args.name.now bytes x v fault (files c.args.files.now) (files c.load_image.new.files) (sink c.args.out.now) (sink c.load_image.new.out) c.in-Err.status (returns-in-Err-clause-ends g c) tells read for reads
 
 pub returns-in-Ok-clause-refused_where : goal.returns-in-Ok-clause-refused_where
 returns-in-Ok-clause-refused_where g c = λ bytes e tells has.
     let files = g.F.Files.state in
     let sink = g.K.Sink.state in
-    refused-where (ShowsFile c.args.path.now) c.args.name.now bytes e (files c.args.files.now) (files c.load_or_say.new.files) (sink c.args.out.now) (sink c.say_answer.new.out) c.say_answer.result (returns-in-Ok-clause-ends g c) tells has
+    refused-where (ShowsFile c.args.path.now) c.args.name.now bytes e (files c.args.files.now) (files c.load_image.new.files) (sink c.args.out.now) (sink c.say_answer.new.out) c.say_answer.result (returns-in-Ok-clause-ends g c) tells has
 
 pub returns-in-Err-clause-refused_where : goal.returns-in-Err-clause-refused_where
 returns-in-Err-clause-refused_where g c = λ bytes e tells has.
     let files = g.F.Files.state in
     let sink = g.K.Sink.state in
-    refused-where (ShowsFile c.args.path.now) c.args.name.now bytes e (files c.args.files.now) (files c.load_or_say.new.files) (sink c.args.out.now) (sink c.load_or_say.new.out) c.in-Err.status (returns-in-Err-clause-ends g c) tells has
+    refused-where (ShowsFile c.args.path.now) c.args.name.now bytes e (files c.args.files.now) (files c.load_image.new.files) (sink c.args.out.now) (sink c.load_image.new.out) c.in-Err.status (returns-in-Err-clause-ends g c) tells has
 
 pub returns-in-Ok-clause-no_volume_where : goal.returns-in-Ok-clause-no_volume_where
 returns-in-Ok-clause-no_volume_where g c = λ bytes x tells read none.
     let files = g.F.Files.state in
     let sink = g.K.Sink.state in
-    not-shown-where c.args.path.now c.args.name.now bytes x (files c.args.files.now) (files c.load_or_say.new.files) (sink c.args.out.now) (sink c.say_answer.new.out) c.say_answer.result (returns-in-Ok-clause-ends g c) tells read none
+    not-shown-where c.args.path.now c.args.name.now bytes x (files c.args.files.now) (files c.load_image.new.files) (sink c.args.out.now) (sink c.say_answer.new.out) c.say_answer.result (returns-in-Ok-clause-ends g c) tells read none
 
 pub returns-in-Err-clause-no_volume_where : goal.returns-in-Err-clause-no_volume_where
 returns-in-Err-clause-no_volume_where g c = λ bytes x tells read none.
     let files = g.F.Files.state in
     let sink = g.K.Sink.state in
-    not-shown-where c.args.path.now c.args.name.now bytes x (files c.args.files.now) (files c.load_or_say.new.files) (sink c.args.out.now) (sink c.load_or_say.new.out) c.in-Err.status (returns-in-Err-clause-ends g c) tells read none
+    not-shown-where c.args.path.now c.args.name.now bytes x (files c.args.files.now) (files c.load_image.new.files) (sink c.args.out.now) (sink c.load_image.new.out) c.in-Err.status (returns-in-Err-clause-ends g c) tells read none

@@ -1,24 +1,32 @@
-use Rattle.std.proofs.Common.{List, ℕ, Bor, map, refl, sym, subst}
+use Rattle.std.proofs.Common.{◌<◌, ◌^◌, List, Option, ℕ, Bor, IfSome, map, refl, sym, subst, arith}
 use Rattle.mq_command_run.specs.RunsScripts.{Runs}
+use Rattle.mq_cli.specs.Asked.{HasSmallNumbers, number_end}
 use Rattle.mq_cli.specs.Help.{help_text, version_line}
 use Rattle.mqfs.specs.Decided.{IsRunnable, RunDecides}
-use Rattle.mqfs.specs.Says.{run_options, said}
+use Rattle.mqfs.specs.Says.{numbers, run_options, said}
+use Rattle.mqfs.proofs.Decided.{chains_decided, file_decided, numbers_decided, recovery_decided, tree_decided}
 use Rattle.mqfs.proofs.program.run.Goals as goal
 
+pub recover-requires : goal.recover-requires
+recover-requires g c = λ k is.
+    let small = subst HasSmallNumbers c.in-Recover.is c.requires.small in
+    let low : k < 2 ^ 63 = subst (λ (o : Option ℕ). IfSome o (λ (n : ℕ). n < number_end)) is small.0 in
+    omega (arith, low)
+
 pub returns-in-Recover-clause-ends : goal.returns-in-Recover-clause-ends
-returns-in-Recover-clause-ends g c = rw c.in-Recover.is c.run_recover.ensures.ends
+returns-in-Recover-clause-ends g c = rw c.in-Recover.is c.recover.ensures.ends
 
 pub returns-in-Ls-clause-ends : goal.returns-in-Ls-clause-ends
-returns-in-Ls-clause-ends g c = rw c.in-Ls.is c.run_ls.ensures.ends
+returns-in-Ls-clause-ends g c = rw c.in-Ls.is c.ls.ensures.ends
 
 pub returns-in-Cat-clause-ends : goal.returns-in-Cat-clause-ends
-returns-in-Cat-clause-ends g c = rw c.in-Cat.is c.run_cat.ensures.ends
+returns-in-Cat-clause-ends g c = rw c.in-Cat.is c.cat.ensures.ends
 
 pub returns-in-Gen-clause-ends : goal.returns-in-Gen-clause-ends
 returns-in-Gen-clause-ends g c = rw c.in-Gen.is c.run_workload.ensures.ends
 
 pub returns-in-Dump-clause-ends : goal.returns-in-Dump-clause-ends
-returns-in-Dump-clause-ends g c = rw c.in-Dump.is c.run_dump.ensures.ends
+returns-in-Dump-clause-ends g c = rw c.in-Dump.is c.dump.ensures.ends
 
 pub returns-in-Help-clause-ends : goal.returns-in-Help-clause-ends
 returns-in-Help-clause-ends g c = rw c.in-Help.is (0, help_text c.in-Help.topic, said refl, c.say_help.ensures)
@@ -49,3 +57,22 @@ returns-in-Run-clause-runs g c =
     rw c.in-Run.is (λ runs.
     c.run_script_files.ensures.runs
     (subst (λ (l : List (Bor (List ℕ))). IsRunnable c.in-Run.image.now (map (λ s. s.now) l) (g.F.Files.state c.args.files.now).contents) (sym c.deref.ensures.value) runs))
+
+pub returns-in-Format-clause-decided : goal.returns-in-Format-clause-decided
+returns-in-Format-clause-decided g c = rw c.in-Format.is (numbers_decided (numbers c.in-Format.queues c.in-Format.area c.in-Format.meta c.in-Format.zone) c.format.result c.format.ensures.done_where c.format.ensures.refused_where)
+
+pub returns-in-Recover-clause-decided : goal.returns-in-Recover-clause-decided
+returns-in-Recover-clause-decided g c =
+    rw c.in-Recover.is (recovery_decided c.in-Recover.image.now (g.F.Files.state c.args.files.now).contents c.recover.result c.recover.ensures.refused_where c.recover.ensures.unreadable_where c.recover.ensures.done_where)
+
+pub returns-in-Ls-clause-decided : goal.returns-in-Ls-clause-decided
+returns-in-Ls-clause-decided g c =
+    rw c.in-Ls.is (tree_decided c.in-Ls.image.now (g.F.Files.state c.args.files.now).contents c.ls.result c.ls.ensures.refused_where c.ls.ensures.no_volume_where c.ls.ensures.done_where)
+
+pub returns-in-Cat-clause-decided : goal.returns-in-Cat-clause-decided
+returns-in-Cat-clause-decided g c =
+    rw c.in-Cat.is (file_decided c.in-Cat.image.now (g.F.Files.state c.args.files.now).contents c.cat.result c.cat.ensures.refused_where c.cat.ensures.no_volume_where c.in-Cat.path c.cat.ensures.done_where c.cat.ensures.no_file_where)
+
+pub returns-in-Dump-clause-decided : goal.returns-in-Dump-clause-decided
+returns-in-Dump-clause-decided g c =
+    rw c.in-Dump.is (chains_decided c.in-Dump.image.now (g.F.Files.state c.args.files.now).contents c.dump.result c.dump.ensures.refused_where c.dump.ensures.unreadable_where c.dump.ensures.done_where)

@@ -1,11 +1,10 @@
 use Rattle.std.proofs.Common.{◌≢◌}
-use Rattle.mq_command_images.specs.Commands.{SaysOfImage}
+use Rattle.mq_command_images.specs.Commands.{SaysNothing, SaysOfImage}
 use Rattle.mq_command_images.specs.Lines.{file_line}
-use Rattle.mq_command_run.specs.RunsScripts.{SaysNothing}
 use Rattle.mq_command_images.specs.declared.answer.Answer.{Answer}
 use Rattle.mq_image.specs.declared.fault.FileFault.TheVariants as file
 use Rattle.mq_command_images.proofs.CommandsSaying.{no-image, refused-as, says}
-use Rattle.mq_command_run.proofs.running.load_image.Goals as goal
+use Rattle.mq_command_images.proofs.loading.load_image.Goals as goal
 
 pub returns-in-Err-read_loaded-clause-refused : goal.returns-in-Err-read_loaded-clause-refused
 returns-in-Err-read_loaded-clause-refused g c =
