@@ -24,7 +24,7 @@ from workload import groups_of
 SEED, GROUPS = 7, 2000
 SMALL = "2 1024 64 256".split()
 LARGEST = "16 16384 32 2046".split()
-BLOCK, HEADER, RING = 4096, 40, 65552
+BLOCK, HEADER, RING = 4096, 40, 262160
 LEAST = 64 << 20
 
 

@@ -10,6 +10,6 @@ mod refusal;
 mod write;
 
 pub use descriptor::{Descriptor, Expect, PlaceIs};
-pub use read::read_descriptor;
+pub use read::{has_further, read_descriptor};
 pub use refusal::DescriptorRefusal;
-pub use write::write_descriptor;
+pub use write::{write_descriptor, write_one_block};

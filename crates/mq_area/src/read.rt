@@ -1,15 +1,24 @@
 // Reading a descriptor.
-ghost use Rattle.std.specs.Prelude.{◌≡◌, ◌≢◌, ◌⊎◌, length, IfOk, IfErr, IsErrOf, MatchResult};
+ghost use Rattle.std.specs.Prelude.{◌≡◌, ◌≢◌, ◌⊎◌, ◌↔◌, length, IfOk, IfErr, IsErrOf, IsTrue, MatchResult};
 ghost use Rattle.mq_blocks.specs.Descriptor.{Descriptor as Text};
-ghost use Rattle.mq_area.specs.Reading.{Accepts, Refuses};
+ghost use Rattle.mq_area.specs.Reading.{Accepts, Refuses, further_of, header_of};
 
 use crate::bytes::read_list;
 use crate::descriptor::{Descriptor, Expect};
 use crate::header::{JOURNAL, check_header, read_header};
 use crate::lists::{are_bytes, check_lists, check_rest};
 use crate::refusal::DescriptorRefusal;
-use mq_blocks::{Block, Geometry};
+use mq_blocks::{Block, Geometry, further_blocks};
 use std::alloc::Global;
+
+/// Whether the counts in the block say that its lists go on in the block before it.
+pub fn has_further(block: &Block) -> bool
+    ensures is { IsTrue result ↔ (further_of (header_of block.now) ≡ 1) }
+    ensures whole { length block.now ≡ 4096 }
+{
+    let header = read_header(block.bytes());
+    further_blocks(u64::from(header.logged) + u64::from(header.revoked)) == 1
+}
 
 /// The descriptor whose last block this is, where it is the one that is expected. Where it is not, the
 /// refusal names the first test that failed. The block before it is looked at only where the lists don't

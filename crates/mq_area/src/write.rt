@@ -23,6 +23,14 @@ pub fn write_descriptor(d: &Descriptor, into: &mut Block, before: &mut Block)
     }
 }
 
+/// Writes a descriptor whose lists fit into one block over the whole block.
+pub fn write_one_block(d: &Descriptor, into: &mut Block)
+    requires { length d.now.logged + length d.now.revoked ≤ 1010 }
+    ensures { into.new ≡ last_block journal_form newest_version d.now }
+{
+    write_last(d, JOURNAL, into.bytes_mut());
+}
+
 /// How many of so many entries fit into the room.
 fn fitting(count: usize, room: usize) -> usize
     ensures few { result ≤ count }

@@ -4,17 +4,17 @@ use Rattle.std.specs.Prelude.{ℕ}
 
 -- the slots of a queue's ring
 abbrev pub depth : ℕ
-depth = 1024
+depth = 4096
 
 -- how many of them may be in use at once: from the head to the staged end one slot stays free, so that the
 -- one before the head is never written
 abbrev pub usable_depth : ℕ
-usable_depth = 1023
+usable_depth = 4095
 
--- the most blocks that a descriptor lists, logged and revoked together
+-- the most blocks that a descriptor lists on any drive, logged and revoked together
 abbrev pub list_limit : ℕ
-list_limit = 1000
+list_limit = 2000
 
 -- the version that is written
 abbrev pub newest_version : ℕ
-newest_version = 1
+newest_version = 2

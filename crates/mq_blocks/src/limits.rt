@@ -3,17 +3,17 @@ ghost use Rattle.std.specs.Prelude.{◌≡◌, ◌≤◌};
 ghost use Rattle.mq_blocks.specs.Descriptor.{further_for};
 
 /// The number of slots of a queue's ring in persistent memory.
-pub const RING_DEPTH: u32 = 1024;
+pub const RING_DEPTH: u32 = 4096;
 
 /// The number of slots of a ring that may be in use at once: the one before the head is never
 /// written.
-pub const USABLE_DEPTH: u32 = 1023;
+pub const USABLE_DEPTH: u32 = 4095;
 
-/// The most blocks that a descriptor lists, logged and revoked together.
-pub const LIST_LIMIT: u32 = 1000;
+/// The most blocks that a descriptor lists on any drive, logged and revoked together.
+pub const LIST_LIMIT: u32 = 2000;
 
 /// The version of the descriptors that are written.
-pub const DESCRIPTOR_VERSION: u32 = 1;
+pub const DESCRIPTOR_VERSION: u32 = 2;
 
 /// The entries of a descriptor's lists that stand in its last block; a further block has the others.
 pub const ENTRIES_IN_ONE: u64 = 1010;

@@ -8,11 +8,22 @@ use std::alloc::{AllocError, Global};
 use std::sync::Wait;
 use std::thread::Threads;
 
+/// What lines made of a file that is saved once another line follows, so that many changes of a large
+/// file cost one save.
+#[derive(Drop)]
+struct Draft {
+    name: String,
+    bytes: Vec<u8>,
+}
+
 /// The files of a case, and what is to fail in it.
 #[derive(Drop)]
 pub struct Table {
     alloc: Global,
     files: MemFiles,
+    draft: Option<Draft>,
+    /// Whether loads and saves are to fail: then each change is saved at once.
+    is_failing: bool,
     /// The puts of the next call that fail.
     puts: Vec<u64>,
     /// The number of the line that was followed last, from 1.
@@ -33,16 +44,17 @@ fn cause_of(refusal: &LineRefusal) -> &'static str {
     }
 }
 
-// The bytes with others in place of those from an offset on.
-fn edited(alloc: Global, held: &[u8], offset: usize, bytes: &[u8]) -> Result<Vec<u8>, LineRefusal> {
-    let mut copy = Vec::from_slice(alloc, held)?;
+// Writes bytes over others from an offset on, where all those are there.
+fn overwrite(held: &mut Vec<u8>, offset: usize, bytes: &[u8]) -> Result<(), LineRefusal> {
+    if offset.saturating_add(bytes.len()) > held.len() {
+        return Err(LineRefusal::Place);
+    }
     for (k, byte) in bytes.iter().enumerate() {
-        match copy.get_mut(offset.saturating_add(k)) {
-            Some(place) => *place = *byte,
-            None => return Err(LineRefusal::Place),
+        if let Some(place) = held.get_mut(offset.saturating_add(k)) {
+            *place = *byte;
         }
     }
-    Ok(copy)
+    Ok(())
 }
 
 impl Table {
@@ -51,6 +63,8 @@ impl Table {
         Table {
             alloc,
             files: MemFiles::new(alloc, Vec::new(alloc), Vec::new(alloc)),
+            draft: None,
+            is_failing: false,
             puts: Vec::new(alloc),
             line: 0,
             is_fresh: false,
@@ -59,6 +73,8 @@ impl Table {
 
     // Forgets all files. The loads and saves with these numbers fail from now on.
     fn begin(&mut self, fail: Vec<u64>) {
+        self.draft = None;
+        self.is_failing = !fail.is_empty();
         self.files = MemFiles::new(self.alloc, Vec::new(self.alloc), fail);
         self.puts.clear();
     }
@@ -78,10 +94,36 @@ impl Table {
         }
     }
 
+    // Saves the draft.
+    fn settle(&mut self) -> Result<(), LineRefusal> {
+        match self.draft.take() {
+            Some(draft) => self.save(draft.name.as_str(), &draft.bytes),
+            None => Ok(()),
+        }
+    }
+
+    // Takes out the draft of a file, or begins one.
+    fn take_draft(&mut self, name: &str) -> Result<Draft, LineRefusal> {
+        if let Some(draft) = self.draft.take() {
+            if draft.name.as_str() == name {
+                return Ok(draft);
+            }
+            self.save(draft.name.as_str(), &draft.bytes)?;
+        }
+        let bytes = Vec::from_slice(self.alloc, self.held(name)?)?;
+        let name = String::from_str(self.alloc, name)?;
+        Ok(Draft { name, bytes })
+    }
+
     fn edit(&mut self, name: &str, offset: usize, bytes: &[u8]) -> Result<(), LineRefusal> {
-        let held = self.held(name)?;
-        let copy = edited(self.alloc, held, offset, bytes)?;
-        self.save(name, &copy)
+        let mut draft = self.take_draft(name)?;
+        let went = overwrite(&mut draft.bytes, offset, bytes);
+        if self.is_failing {
+            went?;
+            return self.save(name, &draft.bytes);
+        }
+        self.draft = Some(draft);
+        went
     }
 
     fn copy(&mut self, from: &str, to: &str, count: Option<usize>) -> Result<(), LineRefusal> {
@@ -99,13 +141,19 @@ impl Table {
 
     fn change(&mut self, change: &Change) -> Result<(), LineRefusal> {
         match change {
-            Change::Make { name, bytes } => self.save(name.as_str(), bytes),
+            Change::Make { name, bytes } => {
+                self.settle()?;
+                self.save(name.as_str(), bytes)
+            }
             Change::Edit {
                 name,
                 offset,
                 bytes,
             } => self.edit(name.as_str(), *offset, bytes),
-            Change::Copy { from, to, count } => self.copy(from.as_str(), to.as_str(), *count),
+            Change::Copy { from, to, count } => {
+                self.settle()?;
+                self.copy(from.as_str(), to.as_str(), *count)
+            }
         }
     }
 
@@ -192,8 +240,14 @@ impl Table {
             Line::Fail(calls) => self.begin(calls),
             Line::Puts(puts) => self.puts = puts,
             Line::Change(change) => self.change(&change)?,
-            Line::Call { words, shown } => return self.call(rt, text, &words, shown),
-            Line::Question(question) => return self.answer(&question),
+            Line::Call { words, shown } => {
+                self.settle()?;
+                return self.call(rt, text, &words, shown);
+            }
+            Line::Question(question) => {
+                self.settle()?;
+                return self.answer(&question);
+            }
         }
         Ok(String::new(self.alloc))
     }

@@ -13,9 +13,7 @@ use Rattle.mq_image.specs.Drives.{IsRead}
 use Rattle.mq_image.specs.Faults.{HasFault, IsGeometryIn, fault_of}
 use Rattle.mq_image.specs.File.{DriveImage, queue_ports, root_port}
 use Rattle.mq_image.specs.declared.fault.FileFault.{FileFault}
-use Rattle.mq_image.proofs.FaultsGeometries.{one_shape}
-use Rattle.mq_image.proofs.FileUnique.{read-same}
-use Rattle.mq_image.proofs.FileWritten.{no-fault, file-shown, ports-shown}
+use Rattle.mq_image.proofs.FileForms.{read-faulty, read-once}
 use Rattle.mq_image_ops.specs.Standing.{HasNoVolume, RefusesDrive, StandsFor}
 use Rattle.mq_image_ops.proofs.Standing.{whole-refused}
 use Rattle.mq_image_ops.proofs.StandingVolumes.{stands-none, stands-once, stands-refused}
@@ -27,22 +25,6 @@ use Rattle.mq_tree.specs.declared.request.Fault.{Fault}
 use Rattle.mq_blocks.specs.Descriptor.{Descriptor}
 use Rattle.mq_blocks.specs.Journal.{AreWhole}
 use Rattle.mq_image_ops.specs.Views.{view_of}
-
--- bytes are those of one image
-pub read-once : (x y : DriveImage) (bytes : List ℕ) → IsRead x bytes → IsRead y bytes → x ≡ y
-read-once x y bytes a b =
-    let own = read-same x x a.drive a.widths (subst (IsRead x) a.bytes a) in
-    let other = read-same x y a.drive a.widths (subst (IsRead y) a.bytes b) in
-    own ∙ sym other
-
--- and then have no fault
-pub read-faulty : (x : DriveImage) (bytes : List ℕ) (e : FileFault) → IsRead x bytes → HasFault bytes (Some e) → ⊥
-read-faulty x bytes e read has =
-    let none : HasFault bytes None = subst (λ (l : List ℕ). HasFault l None) (sym read.bytes) (no-fault x read.drive read.widths) in
-    let geometry : IsGeometryIn bytes x.geometry = subst (λ (l : List ℕ). IsGeometryIn l x.geometry) (sym read.bytes) (file-shown x.geometry (queue_ports x) (root_port x) (ports-shown x read.drive read.widths)).header.geometry in
-    let one : has.shape ≡ none.shape = one_shape bytes x.geometry has.shape geometry has.has ∙ sym (one_shape bytes x.geometry none.shape geometry none.has) in
-    let same : ◌≡◌ {A = Option FileFault} (Some e) None = sym has.is ∙ ap (λ (s : Result Geometry GeometryRefusal). fault_of s bytes) one ∙ none.is in
-    cc
 
 -- ---- the status of what is said
 

@@ -40,6 +40,7 @@ some-fault f (file.Count found) refuses other = refuses
 some-fault f (file.Order index) refuses other = refuses
 some-fault f (file.Zero lba) refuses other = refuses
 some-fault f (file.Extra bytes) refuses other = refuses
+some-fault f (file.OldWords queue) refuses other = refuses
 some-fault f file.OutOfMemory refuses other = absurd (other refl)
 
 -- what is said of bytes that are refused

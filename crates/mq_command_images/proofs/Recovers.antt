@@ -11,13 +11,14 @@ use Rattle.mq_image.specs.Drives.{IsRead}
 use Rattle.mq_image.specs.Faults.{HasFault}
 use Rattle.mq_image.specs.File.{DriveImage, image_bytes}
 use Rattle.mq_image.specs.declared.fault.FileFault.{FileFault}
+use Rattle.mq_image.proofs.FileForms.{read-faulty, read-once}
 use Rattle.mq_image_ops.specs.Recovering.{IsRecoveryOf}
 use Rattle.mq_image_ops.specs.Standing.{Reads, RefusesDrive}
 use Rattle.mq_image_ops.specs.declared.recovery.RecoveredImage.{RecoveredImage}
 use Rattle.mq_image_ops.proofs.Standing.{read-refused}
 use Rattle.mq_outside.specs.Outside.{FilesState, SinkState, Tells}
 use Rattle.mq_recover.specs.declared.refusal.ImageFault.{ImageFault}
-use Rattle.mq_command_images.proofs.CommandsExact.{of-image, one-held, read-faulty, read-once, refused-status, says-where}
+use Rattle.mq_command_images.proofs.CommandsExact.{of-image, one-held, refused-status, says-where}
 use Rattle.mq_command_images.proofs.CommandsSaying.{says}
 
 -- the end of `recover`

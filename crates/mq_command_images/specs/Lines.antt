@@ -49,6 +49,7 @@ file_line (file.Count found) = number_line (codes "image Count ") found
 file_line (file.Order index) = number_line (codes "image Order ") index
 file_line (file.Zero lba) = number_line (codes "image Zero ") lba
 file_line (file.Extra bytes) = number_line (codes "image Extra ") bytes
+file_line (file.OldWords queue) = codes "image Bad queue " ++ (decimal queue ++ codes " Words\n")
 file_line file.OutOfMemory = memory_line
 
 -- ---- images that are not readable

@@ -49,6 +49,7 @@ pub fn line_of_file(alloc: Global, fault: FileFault) -> Result<String, AllocErro
         FileFault::Order { index } => format!(in alloc; "image Order {index}\n"),
         FileFault::Zero { lba } => format!(in alloc; "image Zero {lba}\n"),
         FileFault::Extra { bytes } => format!(in alloc; "image Extra {bytes}\n"),
+        FileFault::OldWords { queue } => format!(in alloc; "image Bad queue {queue} Words\n"),
         FileFault::OutOfMemory => String::from_str(alloc, "memory\n"),
     }
 }

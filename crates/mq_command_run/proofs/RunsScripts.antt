@@ -14,6 +14,7 @@ use Rattle.mq_image.specs.Drives.{IsRead}
 use Rattle.mq_image.specs.Faults.{HasFault}
 use Rattle.mq_image.specs.File.{DriveImage}
 use Rattle.mq_image.specs.declared.fault.FileFault.{FileFault}
+use Rattle.mq_image.proofs.FileForms.{read-faulty, read-once}
 use Rattle.mq_image_run.specs.Limits.{AreWithin, IsFirstAbove}
 use Rattle.mq_image_run.specs.Refusals.{RefusesRun, above_limit, not_mounted, not_readable}
 use Rattle.mq_image_run.specs.Refusals as refusals
@@ -41,7 +42,7 @@ use Rattle.mq_script.specs.declared.refusal.ScriptCause.{ScriptCause}
 use Rattle.mq_script.specs.declared.refusal.ScriptRefusal.{ScriptRefusal}
 use Rattle.mq_script.specs.declared.refusal.ScriptRefusal.TheVariants.{At}
 use Rattle.mq_tree.specs.Volume.{Volume}
-use Rattle.mq_command_images.proofs.CommandsExact.{of-image, one-held, read-faulty, read-once, refused-status, says-where}
+use Rattle.mq_command_images.proofs.CommandsExact.{of-image, one-held, refused-status, says-where}
 use Rattle.mq_command_images.proofs.CommandsSaying.{said-as}
 
 -- the end of `run`

@@ -14,7 +14,7 @@ use Rattle.mq_blocks.specs.declared.geometry.Geometry.{Geometry}
 use Rattle.mq_blocks.specs.Journal.{no_image}
 use Rattle.mq_nvme.specs.Dwords.{dword_bytes}
 use Rattle.mq_image.specs.Drives.{IsDrive}
-use Rattle.mq_image.specs.File.{DriveImage, root_port, all_blocks, areas, file_bytes, header_bytes, kept, magic, namespace, one_of, record_bytes, record_count, records, ring_bytes, zones}
+use Rattle.mq_image.specs.File.{DriveImage, root_port, all_blocks, areas, file_bytes, header_bytes, kept, magic, namespace, one_of, record_bytes, record_count, records, ring_bytes, written_version, zones}
 use Rattle.mq_image.proofs.PlacesSpans.{records-append, record_count-append}
 
 -- ---- one more of a list
@@ -73,11 +73,11 @@ part-length f first lba end i ports p blocks l e b n h =
 -- ---- the parts of a file
 
 pub header-put : (g : Geometry) (base queues area meta zone : ℕ) (f₀ f₁ f₂ f₃ f₄ f₅ f₆ f₇ f₈ : List ℕ) → queues ≡ queues_of g → area ≡ area_of g → meta ≡ meta_of g → zone ≡ zone_size g
-    → f₁ ≡ f₀ ++ magic → f₂ ≡ f₁ ++ to_le_bytes w32 1 → f₃ ≡ f₂ ++ to_le_bytes w32 queues → f₄ ≡ f₃ ++ to_le_bytes w32 area → f₅ ≡ f₄ ++ to_le_bytes w32 meta → f₆ ≡ f₅ ++ to_le_bytes w32 zone
-    → f₇ ≡ f₆ ++ to_le_bytes w32 0 → f₈ ≡ f₇ ++ to_le_bytes w64 base → f₈ ≡ f₀ ++ header_bytes g base
+    → f₁ ≡ f₀ ++ magic → f₂ ≡ f₁ ++ to_le_bytes w32 written_version → f₃ ≡ f₂ ++ to_le_bytes w32 queues → f₄ ≡ f₃ ++ to_le_bytes w32 area → f₅ ≡ f₄ ++ to_le_bytes w32 meta → f₆ ≡ f₅ ++ to_le_bytes w32 zone
+    → f₇ ≡ f₆ ++ to_le_bytes w32 0 → f₈ ≡ f₇ ++ to_le_bytes w64 base → f₈ ≡ f₀ ++ header_bytes written_version g base
 unfolding header_bytes
 header-put g base queues area meta zone f₀ f₁ f₂ f₃ f₄ f₅ f₆ f₇ f₈ q a m z e₁ e₂ e₃ e₄ e₅ e₆ e₇ e₈ =
-    let t₂ = e₂ ∙ ap (λ (w : List ℕ). w ++ to_le_bytes w32 1) e₁ in
+    let t₂ = e₂ ∙ ap (λ (w : List ℕ). w ++ to_le_bytes w32 written_version) e₁ in
     let t₃ = e₃ ∙ ap (λ (n : ℕ). f₂ ++ to_le_bytes w32 n) q ∙ ap (λ (w : List ℕ). w ++ to_le_bytes w32 (queues_of g)) t₂ in
     let t₄ = e₄ ∙ ap (λ (n : ℕ). f₃ ++ to_le_bytes w32 n) a ∙ ap (λ (w : List ℕ). w ++ to_le_bytes w32 (area_of g)) t₃ in
     let t₅ = e₅ ∙ ap (λ (n : ℕ). f₄ ++ to_le_bytes w32 n) m ∙ ap (λ (w : List ℕ). w ++ to_le_bytes w32 (meta_of g)) t₄ in
@@ -94,8 +94,8 @@ ring-put p doorbell head slots f₀ f₁ f₂ f₃ d h s e₁ e₂ e₃ =
     e₃ ∙ ap (λ (es : List (List ℕ)). f₂ ++ flat_map dword_bytes es) s ∙ ap (λ (w : List ℕ). w ++ flat_map dword_bytes p.slots) t₂ ∙ simp append_assoc
 
 pub file-put : (g : Geometry) (queues : List PortImage) (root : PortImage) (count meta zone : ℕ) (f₀ f₁ f₂ f₃ f₄ f₅ f₆ : List ℕ) → f₀ ≡ [] → count ≡ record_count (namespace g queues root) → meta ≡ length (areas g queues) → zone ≡ meta + length root.blocks
-    → f₁ ≡ f₀ ++ header_bytes g root.base → f₂ ≡ f₁ ++ flat_map ring_bytes queues → f₃ ≡ f₂ ++ to_le_bytes w32 count → f₄ ≡ f₃ ++ records 0 (areas g queues) → f₅ ≡ f₄ ++ records meta root.blocks → f₆ ≡ f₅ ++ records zone (zones g queues)
-    → f₆ ≡ file_bytes g queues root
+    → f₁ ≡ f₀ ++ header_bytes written_version g root.base → f₂ ≡ f₁ ++ flat_map ring_bytes queues → f₃ ≡ f₂ ++ to_le_bytes w32 count → f₄ ≡ f₃ ++ records 0 (areas g queues) → f₅ ≡ f₄ ++ records meta root.blocks → f₆ ≡ f₅ ++ records zone (zones g queues)
+    → f₆ ≡ file_bytes written_version g queues root
 unfolding file_bytes
 file-put g queues root count meta zone f₀ f₁ f₂ f₃ f₄ f₅ f₆ e₀ c m z e₁ e₂ e₃ e₄ e₅ e₆ =
     let a = areas g queues in
@@ -106,10 +106,10 @@ file-put g queues root count meta zone f₀ f₁ f₂ f₃ f₄ f₅ f₆ e₀ c
     let whole : records 0 (namespace g queues root) ≡ (records 0 a ++ records meta r) ++ records zone s =
     records-append 0 (a ++ r) s ∙ ap (λ (w : List ℕ). w ++ records (0 + length (a ++ r)) s) (records-append 0 a r ∙ ap (λ (j : ℕ). records 0 a ++ records j r) n)
     ∙ ap (λ (j : ℕ). (records 0 a ++ records meta r) ++ records j s) k in
-    let front = (header_bytes g root.base ++ flat_map ring_bytes queues) ++ to_le_bytes w32 (record_count (namespace g queues root)) in
+    let front = (header_bytes written_version g root.base ++ flat_map ring_bytes queues) ++ to_le_bytes w32 (record_count (namespace g queues root)) in
     let flat : ((front ++ records 0 a) ++ records meta r) ++ records zone s ≡ front ++ ((records 0 a ++ records meta r) ++ records zone s) =
     ap (λ (w : List ℕ). w ++ records zone s) (append_assoc front (records 0 a) (records meta r)) ∙ append_assoc front (records 0 a ++ records meta r) (records zone s) in
-    let t₁ = e₁ ∙ ap (λ (w : List ℕ). w ++ header_bytes g root.base) e₀ in
+    let t₁ = e₁ ∙ ap (λ (w : List ℕ). w ++ header_bytes written_version g root.base) e₀ in
     let t₂ = e₂ ∙ ap (λ (w : List ℕ). w ++ flat_map ring_bytes queues) t₁ in
     let t₃ = e₃ ∙ ap (λ (k : ℕ). f₂ ++ to_le_bytes w32 k) c ∙ ap (λ (w : List ℕ). w ++ to_le_bytes w32 (record_count (namespace g queues root))) t₂ in
     let t₄ = e₄ ∙ ap (λ (w : List ℕ). w ++ records 0 a) t₃ in

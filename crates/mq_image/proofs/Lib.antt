@@ -1,12 +1,17 @@
 pub mod Faults
 pub mod FaultsGeometries
 pub mod File
+pub mod FileForms
 pub mod FileRecords
 pub mod FileUnique
 pub mod FileWritten
 pub mod Lists
+pub mod OldMoves
+pub mod OldWords
 pub mod PlacesNexts
 pub mod PlacesSpans
 pub mod ReadsAreas
 pub mod ReadsAssemblies
+pub mod ReadsImages
 pub mod ReadsZones
+pub mod Versions

@@ -1,10 +1,10 @@
 -- The image that a file is read as, from its parts.
-use Rattle.std.proofs.Common.{get_or, inl, inr, zero-add, ◌≡◌, ℕ, ◌+◌, ◌*◌, ◌<◌, ◌≤◌, List, [], ◌∷◌, ◌++◌, length, take, Bool, true, false, refl, sym, ap, ◌∙◌, subst, arith}
-use Rattle.std.specs.Prelude.{Option, Some, None, Ok}
+use Rattle.std.proofs.Common.{get_or, ◌≡◌, ℕ, ◌+◌, ◌*◌, ◌<◌, ◌≤◌, List, [], ◌∷◌, ◌++◌, length, take, Bool, true, false, refl, sym, ap, ◌∙◌, subst, arith}
+use Rattle.std.specs.Prelude.{Option, Some, None, nat_eq}
 use Rattle.std.specs.Int.{to_le_bytes, w32, w64}
 use Rattle.std.specs.List.{flat_map}
-use Rattle.std.proofs.lemmas.Bool.{cases_lt, eqb-true, leb-true}
-use Rattle.std.proofs.lemmas.List.{append-nil, get_or_at, get_or_append_left, get_or_default, length_push, take_all, take_at}
+use Rattle.std.proofs.lemmas.Bool.{eqb-true, leb-true}
+use Rattle.std.proofs.lemmas.List.{append-nil, get_or_at, get_or_append_left, length_push, take_all, take_at}
 use Rattle.byteorder.specs.Endian.{little_number}
 use Rattle.mq_blocks.specs.Descriptor.{list_bytes}
 use Rattle.mq_blocks.specs.Drive.{PortImage}
@@ -14,28 +14,30 @@ use Rattle.mq_blocks.specs.declared.geometry.Geometry.{Geometry}
 use Rattle.mq_blocks.proofs.WindowsReadings.{bytes-number_at_4, bytes-number_at_8, window-add}
 use Rattle.mq_blocks.proofs.Windows.{shows-join}
 use Rattle.mq_blocks.specs.Journal.{no_image}
-use Rattle.mq_image.specs.Drives.{HasWidths, IsRead}
-use Rattle.mq_image.specs.Faults.{IsGeometryIn, or_then, unless, header_fault, extra_fault, blocks_end, count_at, count_in, queues_in}
-use Rattle.mq_image.specs.File.{all_blocks, areas, file_bytes, header_bytes, header_numbers, magic, namespace, record_count, records, ring_bytes, zones}
+use Rattle.mq_image.specs.Faults.{or_then, unless, header_fault, extra_fault, blocks_end, count_at, count_in}
+use Rattle.mq_image.specs.File.{all_blocks, areas, file_bytes, header_bytes, header_numbers, is_version, magic, namespace, record_count, records, ring_bytes, ring_size, rings_end, zones}
 use Rattle.mq_image.specs.Places.{IsSpan, rest_of}
-use Rattle.mq_image.specs.Reads.{AreAreasRead, ArePortsRead, AreZonesRead, IsPast, IsQueuePort, IsRootPort}
+use Rattle.mq_image.specs.Reads.{AreAreasRead, ArePortsRead, AreStored, AreZonesRead, IsHeaderIn, IsPast, IsQueuePort, IsRootPort}
+use Rattle.mq_image.specs.declared.header.Header.{Header}
 use Rattle.mq_image.specs.declared.fault.FileFault.{FileFault}
 use Rattle.mq_image.specs.declared.fault.FileFault.TheVariants.{Reserved}
 use Rattle.mq_image.specs.declared.place.Place.{Place}
+use Rattle.mq_image.proofs.Faults.{count-place, first_of}
 use Rattle.mq_image.proofs.ReadsAreas.{past-span, past-join}
+use Rattle.mq_image.proofs.Versions.{rings-are}
 use Rattle.mq_image.proofs.PlacesSpans.{span-join}
 
 -- ---- the ports
 
-pub ports-read : (g : Geometry) (base : ℕ) (file : List ℕ) (old m₁ m₂ new : Place) (before ports all : List PortImage) (root : PortImage) → all ≡ ports ++ root ∷ [] → old.lba ≡ 0 → old.size ≡ queues_of g * area_of g + homes_of g
-    → AreAreasRead g file (queues_of g) old m₁ before → IsSpan file m₁ m₂ root.blocks → IsRootPort g base root → AreZonesRead g file (queues_of g) m₂ new before ports → ArePortsRead g base file old new all
-ports-read g base file old m₁ m₂ new before ports all root e start size a s r z = rw e (record {
+pub ports-read : (v : ℕ) (g : Geometry) (base : ℕ) (file : List ℕ) (old m₁ m₂ new : Place) (before ports all : List PortImage) (root : PortImage) → all ≡ ports ++ root ∷ [] → old.lba ≡ 0 → old.size ≡ queues_of g * area_of g + homes_of g
+    → AreAreasRead v g file (queues_of g) old m₁ before → IsSpan file m₁ m₂ root.blocks → IsRootPort g base root → AreZonesRead v g file (queues_of g) m₂ new before ports → ArePortsRead v g base file old new all
+ports-read v g base file old m₁ m₂ new before ports all root e start size a s r z = rw e (record {
   count_is = length_push ports root ∙ ap (λ (k : ℕ). k + 1) n;
-  queues = λ q l. subst (λ (p : PortImage). IsQueuePort g p) (sym (get_or_append_left ports (root ∷ []) no_image q (omega arith))) (z.done q l);
+  queues = λ q l. subst (λ (p : PortImage). IsQueuePort v g p) (sym (get_or_append_left ports (root ∷ []) no_image q (omega arith))) (z.done q l);
   root = subst (λ (p : PortImage). IsRootPort g base p) (sym last) r;
   past = past;
   span = subst (λ (p : PortImage). IsSpan file old new (namespace g (take (queues_of g) (ports ++ root ∷ [])) p)) (sym last) (subst (λ (ps : List PortImage). IsSpan file old new (namespace g ps root)) (sym front) whole);
-  rings = subst (λ (ps : List PortImage). flat_map ring_bytes ps ≡ window file 40 (65552 * queues_of g)) (sym front) (z.rings ∙ a.rings);
+  rings = subst (λ (ps : List PortImage). flat_map ring_bytes ps ≡ window file 40 (ring_size v * queues_of g)) (sym front) (z.rings ∙ a.rings);
 })
   where
     n : length ports ≡ queues_of g
@@ -72,9 +74,23 @@ unless-none : (t : Bool) (f : FileFault) → unless t f ≡ None → t ≡ true
 unless-none true f h = refl
 unless-none false f h = absurd (cc)
 
-header-read : (file : List ℕ) (g : Geometry) (base : ℕ) → 40 ≤ length file → ((k : ℕ) → get_or file k 0 < 256) → header_fault (Ok g) file ≡ None → IsGeometryIn file g → base ≡ number_at 8 32 file → window file 0 40 ≡ header_bytes g base
+-- the version is one that is read
+pub header-known : (file : List ℕ) (h : Header) → IsHeaderIn file h → is_version h.version ≡ true
+unfolding header_fault
+header-known file h is =
+    let m = then-none _ _ (then-none _ _ is.none).1 in
+    let v = then-none _ (or_then None (unless (nat_eq (number_at 4 28 file) 0) (Reserved (number_at 4 28 file)))) m.1 in
+    ap is_version is.version_is ∙ unless-none _ _ v.0
+
+header-read : (file : List ℕ) (h : Header) → ((k : ℕ) → get_or file k 0 < 256) → IsHeaderIn file h → window file 0 40 ≡ header_bytes h.version h.geometry h.base
 unfolding header_fault header_bytes
-header-read file g base room small none h b =
+header-read file head small is =
+    let g = head.geometry in
+    let base = head.base in
+    let room = is.room in
+    let none = is.none in
+    let h = is.geometry_is in
+    let b = is.base_is in
     let r0 : 0 + 8 ≤ length file = omega arith in
     let r8 : 8 + 4 ≤ length file = omega arith in
     let r12 : 12 + 4 ≤ length file = omega arith in
@@ -85,12 +101,11 @@ header-read file g base room small none h b =
     let r32 : 32 + 8 ≤ length file = omega arith in
     let a = then-none _ _ none in
     let m = then-none _ _ a.1 in
-    let v = then-none _ _ m.1 in
+    let v = then-none _ (or_then None (unless (nat_eq (number_at 4 28 file) 0) (Reserved (number_at 4 28 file)))) m.1 in
     let magic_is : number_at 8 0 file ≡ little_number 8 magic = eqb-true _ _ (unless-none _ _ m.0) in
-    let version_is : number_at 4 8 file ≡ 1 = eqb-true _ _ (unless-none _ _ v.0) in
     let reserved_is : number_at 4 28 file ≡ 0 = eqb-true _ _ (unless-none _ (Reserved (number_at 4 28 file)) v.1) in
     let s₀ : Shows file 0 magic = sym (bytes-number_at_8 0 file r0 small) ∙ ap (to_le_bytes w64) magic_is in
-    let s₁ : Shows file 8 (to_le_bytes w32 1) = sym (bytes-number_at_4 8 file r8 small) ∙ ap (to_le_bytes w32) version_is in
+    let s₁ : Shows file 8 (to_le_bytes w32 head.version) = sym (bytes-number_at_4 8 file r8 small) ∙ ap (to_le_bytes w32) (sym is.version_is) in
     let s₂ : Shows file 12 (to_le_bytes w32 (queues_of g)) = sym (bytes-number_at_4 12 file r12 small) ∙ ap (to_le_bytes w32) (sym h.queues) in
     let s₃ : Shows file 16 (to_le_bytes w32 (area_of g)) = sym (bytes-number_at_4 16 file r16 small) ∙ ap (to_le_bytes w32) (sym h.area) in
     let s₄ : Shows file 20 (to_le_bytes w32 (meta_of g)) = sym (bytes-number_at_4 20 file r20 small) ∙ ap (to_le_bytes w32) (sym h.meta) in
@@ -104,7 +119,7 @@ header-read file g base room small none h b =
     let t₂ = shows-join file 12 _ 16 _ s₂ refl t₃ in
     let t₁ = shows-join file 8 _ 12 _ s₁ refl t₂ in
     let t₀ = shows-join file 0 magic 8 _ s₀ refl t₁ in
-    shows-join file 0 (magic ++ list_bytes (header_numbers g)) 32 (to_le_bytes w64 base) t₀ refl s₇
+    shows-join file 0 (magic ++ list_bytes (header_numbers head.version g)) 32 (to_le_bytes w64 base) t₀ refl s₇
 
 -- a file is its four parts
 parts : (file : List ℕ) (rings blocks : ℕ) → length file ≡ 40 + rings + 4 + blocks → file ≡ ((window file 0 40 ++ window file 40 rings) ++ window file (40 + rings) 4) ++ window file (40 + rings + 4) blocks
@@ -121,29 +136,28 @@ records-read file first last blocks s lba none =
     let e : 4100 * last.left ≡ 0 = omega arith in
     s.rest ∙ ap (λ (n : ℕ). records n blocks ++ rest_of last file) lba ∙ ap (λ (n : ℕ). records 0 blocks ++ window file last.at n) e ∙ append-nil (records 0 blocks)
 
-file-fold : (g : Geometry) (queues : List PortImage) (root : PortImage) → ((header_bytes g root.base ++ flat_map ring_bytes queues) ++ to_le_bytes w32 (record_count (namespace g queues root))) ++ records 0 (namespace g queues root) ≡ file_bytes g queues root
+file-fold : (v : ℕ) (g : Geometry) (queues : List PortImage) (root : PortImage)
+    → ((header_bytes v g root.base ++ flat_map ring_bytes queues) ++ to_le_bytes w32 (record_count (namespace g queues root))) ++ records 0 (namespace g queues root) ≡ file_bytes v g queues root
 unfolding file_bytes
-file-fold g queues root = refl
+file-fold v g queues root = refl
 
-pub file-read : (file : List ℕ) (g : Geometry) (base count : ℕ) (first last : Place) (ports : List PortImage) → ((k : ℕ) → get_or file k 0 < 256) → 40 ≤ length file → header_fault (Ok g) file ≡ None → IsGeometryIn file g → base ≡ number_at 8 32 file
-    → count ≡ count_in file → blocks_end file ≤ length file → extra_fault (blocks_end file) file ≡ None → first ≡ record { at = 40 + 65552 * queues_of g + 4; left = count; index = 0; lba = 0; size = queues_of g * area_of g + homes_of g }
-    → ArePortsRead g base file first last ports → last.left ≡ 0 → IsRead (record { geometry = g; ports = ports }) file
-file-read file g base count first last ports small room header h b c end extra is r none = record {
-  drive = record {
-    ports = r.count_is;
-    queues = λ q l. let p = r.queues q l in record { slots = p.slots; blocks = p.blocks; words = p.base };
-    root = record { slots = r.root.slots; blocks = r.root.blocks ∙ sym (zero-add (meta_of g)); words = (r.root.doorbell, r.root.head) };
-  };
-  widths = λ k d l. subst (λ (p : PortImage). HasWidths p) (sym (get_or_default ports k d no_image l)) (elim (cases_lt k (queues_of g)) [
-    | inl low ↦ (r.queues k low).widths
-    | inr high ↦
-        let last : k ≡ queues_of g = omega (arith, l, high, r.count_is) in
-        subst (λ (j : ℕ). HasWidths (get_or ports j no_image)) (sym last) r.root.widths
-  ]);
+pub file-read : (file : List ℕ) (h : Header) (count : ℕ) (first last : Place) (ports : List PortImage) → ((k : ℕ) → get_or file k 0 < 256) → IsHeaderIn file h
+    → count ≡ count_in file → blocks_end file ≤ length file → extra_fault (blocks_end file) file ≡ None → first ≡ first_of h count → ArePortsRead h.version h.geometry h.base file first last ports → last.left ≡ 0 → AreStored h.version h.geometry file ports
+file-read file h count first last ports small head c end extra is r none = record {
+  count_is = r.count_is;
+  queues = r.queues;
+  base = h.base;
+  root = r.root;
   bytes = whole;
   kept_is = r.span.kept_is;
 }
   where
+    g : Geometry
+    g = h.geometry
+
+    rings : ℕ
+    rings = ring_size h.version * queues_of g
+
     root : PortImage
     root = get_or ports (queues_of g) no_image
 
@@ -153,32 +167,36 @@ file-read file g base count first last ports small room header h b c end extra i
     blocks : List (Option (List ℕ))
     blocks = namespace g queues root
 
-    size : length file ≡ 40 + 65552 * queues_of g + 4 + 4100 * count
+    ends : rings_end h.version (queues_of g) ≡ 40 + rings
+    ends = rings-are h.version (queues_of g)
+
+    size : length file ≡ 40 + rings + 4 + 4100 * count
     size =
-        let q = h.queues in
+        let q = count-place file h head in
+        let e = ends in
         let l = leb-true (length file) (blocks_end file) (unless-none _ _ extra) in
         omega arith
 
-    front : window file 0 40 ≡ header_bytes g root.base
-    front = header-read file g base room small header h b ∙ ap (header_bytes g) (sym r.root.base_is)
+    front : window file 0 40 ≡ header_bytes h.version g root.base
+    front = header-read file h small head ∙ ap (header_bytes h.version g) (sym r.root.base_is)
 
-    number : window file (40 + 65552 * queues_of g) 4 ≡ to_le_bytes w32 (record_count blocks)
+    number : window file (40 + rings) 4 ≡ to_le_bytes w32 (record_count blocks)
     number =
         let s = size in
-        let q : 40 + 65552 * queues_of g ≡ count_at (queues_in file) = ap (λ (n : ℕ). 40 + 65552 * n) h.queues in
+        let q : 40 + rings ≡ count_at file = sym ends ∙ count-place file h head in
         let n = r.span.count in
         let l : first.left ≡ count = ap (λ (x : Place). x.left) is in
-        let e : number_at 4 (40 + 65552 * queues_of g) file ≡ record_count blocks = ap (λ (k : ℕ). number_at 4 k file) q ∙ sym c ∙ (let t : count ≡ record_count blocks = omega arith in t) in
-        sym (bytes-number_at_4 (40 + 65552 * queues_of g) file (omega arith) small) ∙ ap (to_le_bytes w32) e
+        let e : number_at 4 (40 + rings) file ≡ record_count blocks = ap (λ (k : ℕ). number_at 4 k file) q ∙ sym c ∙ (let t : count ≡ record_count blocks = omega arith in t) in
+        sym (bytes-number_at_4 (40 + rings) file (omega arith) small) ∙ ap (to_le_bytes w32) e
 
-    tail : window file (40 + 65552 * queues_of g + 4) (4100 * count) ≡ records 0 blocks
+    tail : window file (40 + rings + 4) (4100 * count) ≡ records 0 blocks
     tail =
-        let w : rest_of first file ≡ window file (40 + 65552 * queues_of g + 4) (4100 * count) = ap (λ (x : Place). rest_of x file) is in
+        let w : rest_of first file ≡ window file (40 + rings + 4) (4100 * count) = ap (λ (x : Place). rest_of x file) is ∙ ap (λ (k : ℕ). window file (k + 4) (4100 * count)) ends in
         sym w ∙ records-read file first last blocks r.span (ap (λ (x : Place). x.lba) is) none
 
-    whole : file ≡ file_bytes g queues root
+    whole : file ≡ file_bytes h.version g queues root
     whole =
-        parts file (65552 * queues_of g) (4100 * count) size ∙ ap (λ (w : List ℕ). ((w ++ window file 40 (65552 * queues_of g)) ++ window file (40 + 65552 * queues_of g) 4) ++ window file (40 + 65552 * queues_of g + 4) (4100 * count)) front
-        ∙ ap (λ (w : List ℕ). ((header_bytes g root.base ++ w) ++ window file (40 + 65552 * queues_of g) 4) ++ window file (40 + 65552 * queues_of g + 4) (4100 * count)) (sym r.rings)
-        ∙ ap (λ (w : List ℕ). ((header_bytes g root.base ++ flat_map ring_bytes queues) ++ w) ++ window file (40 + 65552 * queues_of g + 4) (4100 * count)) number
-        ∙ ap (λ (w : List ℕ). ((header_bytes g root.base ++ flat_map ring_bytes queues) ++ to_le_bytes w32 (record_count blocks)) ++ w) tail ∙ file-fold g queues root
+        parts file rings (4100 * count) size ∙ ap (λ (w : List ℕ). ((w ++ window file 40 rings) ++ window file (40 + rings) 4) ++ window file (40 + rings + 4) (4100 * count)) front
+        ∙ ap (λ (w : List ℕ). ((header_bytes h.version g root.base ++ w) ++ window file (40 + rings) 4) ++ window file (40 + rings + 4) (4100 * count)) (sym r.rings)
+        ∙ ap (λ (w : List ℕ). ((header_bytes h.version g root.base ++ flat_map ring_bytes queues) ++ w) ++ window file (40 + rings + 4) (4100 * count)) number
+        ∙ ap (λ (w : List ℕ). ((header_bytes h.version g root.base ++ flat_map ring_bytes queues) ++ to_le_bytes w32 (record_count blocks)) ++ w) tail ∙ file-fold h.version g queues root

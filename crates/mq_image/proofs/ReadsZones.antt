@@ -51,8 +51,8 @@ flat-alike {X} {A} f g (x ∷ xs) d h =
 
 -- ---- the zones
 
-pub zones-none : (g : Geometry) (file : List ℕ) (p : Place) (ports : List PortImage) → All (λ q. IsAreaPort g q) ports → IsInside p file → AreZonesRead g file 0 p p ports ports
-zones-none g file p ports h inside =
+pub zones-none : (v : ℕ) (g : Geometry) (file : List ℕ) (p : Place) (ports : List PortImage) → All (λ q. IsAreaPort v g q) ports → IsInside p file → AreZonesRead v g file 0 p p ports ports
+zones-none v g file p ports h inside =
     let none : zones g ports ≡ [] = flat-nil (λ (q : PortImage). drop (area_of g) q.blocks) ports no_image (λ k l. let s = (h k no_image l).area in drop_all (area_of g) (get_or ports k no_image).blocks (omega arith)) in
     record {
       count_is = refl;
@@ -70,18 +70,18 @@ unfolding ring_bytes
 ring-blocks p bs = refl
 
 -- the zone of one more port
-pub zones-more : (g : Geometry) (file : List ℕ) (i : ℕ) (old mid new : Place) (before ports : List PortImage) (q : PortImage) (zone : List (Option (List ℕ))) → i < length ports → q ≡ with_zone (get_or ports i no_image) zone
-    → AreZonesRead g file i old mid before ports → IsSpan file mid new zone → length zone ≡ zone_size g → AreZonesRead g file (i + 1) old new before (set ports i q)
-zones-more g file i old mid new before ports q zone l e r s n = record {
+pub zones-more : (v : ℕ) (g : Geometry) (file : List ℕ) (i : ℕ) (old mid new : Place) (before ports : List PortImage) (q : PortImage) (zone : List (Option (List ℕ))) → i < length ports → q ≡ with_zone (get_or ports i no_image) zone
+    → AreZonesRead v g file i old mid before ports → IsSpan file mid new zone → length zone ≡ zone_size g → AreZonesRead v g file (i + 1) old new before (set ports i q)
+zones-more v g file i old mid new before ports q zone l e r s n = record {
   count_is = length-set ports i q ∙ r.count_is;
   done = λ k low. elim (cases_eq k i) [
-    | inl same ↦ subst (λ (p : PortImage). IsQueuePort g p) (sym (ap (λ (j : ℕ). get_or (set ports i q) j no_image) same ∙ get_or-set_same ports i q no_image l)) whole
-    | inr apart ↦ subst (λ (p : PortImage). IsQueuePort g p) (sym (get_or-set_other ports i k q no_image apart)) (r.done k (omega arith))
+    | inl same ↦ subst (λ (p : PortImage). IsQueuePort v g p) (sym (ap (λ (j : ℕ). get_or (set ports i q) j no_image) same ∙ get_or-set_same ports i q no_image l)) whole
+    | inr apart ↦ subst (λ (p : PortImage). IsQueuePort v g p) (sym (get_or-set_other ports i k q no_image apart)) (r.done k (omega arith))
   ];
   rest = λ k high low.
       let apart : k ≢ i = omega arith in
       let inside : k < length ports = omega (arith, length-set ports i q) in
-      subst (λ (p : PortImage). IsAreaPort g p) (sym (get_or-set_other ports i k q no_image apart)) (r.rest k (omega arith) inside);
+      subst (λ (p : PortImage). IsAreaPort v g p) (sym (get_or-set_other ports i k q no_image apart)) (r.rest k (omega arith) inside);
   size = ap length more ∙ length-append (zones g ports) zone ∙ (let a = r.size in let b : (i + 1) * zone_size g ≡ i * zone_size g + zone_size g = omega arith in omega arith);
   span = subst (λ (bs : List (Option (List ℕ))). IsSpan file old new bs) (sym more) (span-join file old mid new (zones g ports) zone r.span s);
   areas_are = flat-same (λ (p : PortImage). take (area_of g) p.blocks) ports i q no_image front ∙ r.areas_are;
@@ -91,7 +91,7 @@ zones-more g file i old mid new before ports q zone l e r s n = record {
     p : PortImage
     p = get_or ports i no_image
 
-    alone : IsAreaPort g (get_or ports i no_image)
+    alone : IsAreaPort v g (get_or ports i no_image)
     alone = r.rest i (omega arith) l
 
     len : length p.blocks ≡ area_of g
@@ -109,7 +109,7 @@ zones-more g file i old mid new before ports q zone l e r s n = record {
     ring : ring_bytes q ≡ ring_bytes p
     ring = ap ring_bytes e ∙ ring-blocks p (p.blocks ++ zone)
 
-    whole : IsQueuePort g q
+    whole : IsQueuePort v g q
     whole = record {
       blocks = let m = len in ap length blocks ∙ length-append p.blocks zone ∙ (let t : length p.blocks + length zone ≡ area_of g + zone_size g = omega arith in t);
       slots = ap (λ (x : PortImage). length x.slots) e ∙ alone.slots;

@@ -1,14 +1,14 @@
 -- Why bytes are not the file of an image: the first fault in the order of the tests.
-use Rattle.std.specs.Prelude.{◌≡◌, ℕ, zero, suc, ◌+◌, ◌-◌, ◌*◌, Bool, ◌||◌, List, length, Option, Some, None, Result, Ok, Err, MatchResult, nat_eq, nat_le, nat_lt, if◌then◌else◌}
+use Rattle.std.specs.Prelude.{◌≡◌, ℕ, zero, suc, ◌+◌, ◌-◌, ◌*◌, ◌^◌, Bool, ◌||◌, ◌&&◌, List, length, Option, Some, None, Result, Ok, Err, MatchResult, nat_eq, nat_le, nat_lt, if◌then◌else◌}
 use Rattle.byteorder.specs.Endian.{little_number}
 use Rattle.mq_blocks.specs.Windows.{number_at, window}
 use Rattle.mq_blocks.specs.Geometry.{IsQueues, IsArea, AreHomes, queues_of, area_of, meta_of, zone_size, blocks_of_drive}
 use Rattle.mq_blocks.specs.declared.geometry.Geometry.{Geometry}
 use Rattle.mq_blocks.specs.declared.geometry.GeometryRefusal.{GeometryRefusal}
 use Rattle.mq_blocks.specs.declared.geometry.GeometryRefusal.TheVariants.{Queues, Area, Homes}
-use Rattle.mq_image.specs.File.{is_blank, magic}
+use Rattle.mq_image.specs.File.{is_blank, is_version, magic, rings_end}
 use Rattle.mq_image.specs.declared.fault.FileFault.{FileFault}
-use Rattle.mq_image.specs.declared.fault.FileFault.TheVariants.{Short, Magic, Version, Geometry as Shape, Reserved, Count, Order, Zero, Extra, OutOfMemory}
+use Rattle.mq_image.specs.declared.fault.FileFault.TheVariants.{Short, Magic, Version, Geometry as Shape, Reserved, Count, Order, Zero, Extra, OldWords, OutOfMemory}
 
 -- a test, and the fault of bytes that do not pass it
 abbrev pub unless : {X : Type 0} → Bool → X → Option X
@@ -23,6 +23,9 @@ abbrev pub short_fault : ℕ → List ℕ → Option FileFault
 short_fault need file = unless (nat_le need (length file)) (Short need (length file))
 
 -- ---- the header
+
+abbrev pub version_in : List ℕ → ℕ
+version_in file = number_at 4 8 file
 
 abbrev pub queues_in : List ℕ → ℕ
 queues_in file = number_at 4 12 file
@@ -63,22 +66,22 @@ unfoldable pub header_fault : Result Geometry GeometryRefusal → List ℕ → O
 header_fault shape file =
     or_then (short_fault 40 file)
     (or_then (unless (nat_eq (number_at 8 0 file) (little_number 8 magic)) Magic)
-    (or_then (unless (nat_eq (number_at 4 8 file) 1) (Version (number_at 4 8 file)))
+    (or_then (unless (is_version (version_in file)) (Version (version_in file)))
     (or_then (geometry_fault shape)
     (unless (nat_eq (number_at 4 28 file) 0) (Reserved (number_at 4 28 file))))))
 
 -- ---- the lengths
 
 -- where the number of blocks stands, behind the rings
-abbrev pub count_at : ℕ → ℕ
-count_at queues = 40 + 65552 * queues
+abbrev pub count_at : List ℕ → ℕ
+count_at file = rings_end (version_in file) (queues_in file)
 
 abbrev pub count_in : List ℕ → ℕ
-count_in file = number_at 4 (count_at (queues_in file)) file
+count_in file = number_at 4 (count_at file) file
 
 -- where the blocks stand, and where they end
 abbrev pub blocks_at : List ℕ → ℕ
-blocks_at file = count_at (queues_in file) + 4
+blocks_at file = count_at file + 4
 
 abbrev pub blocks_end : List ℕ → ℕ
 blocks_end file = blocks_at file + 4100 * count_in file
@@ -105,19 +108,47 @@ record_fault size (suc count) index low at file =
 abbrev pub block_fault : Geometry → List ℕ → Option FileFault
 block_fault g file = record_fault (blocks_of_drive g) (count_in file) 0 0 (blocks_at file) file
 
+-- ---- the words of version 1
+
+-- the words of a queue
+abbrev pub doorbell_in : ℕ → List ℕ → ℕ
+doorbell_in queue file = number_at 8 (rings_end 1 queue) file
+
+abbrev pub head_in : ℕ → List ℕ → ℕ
+head_in queue file = number_at 8 (rings_end 1 queue + 8) file
+
+-- at most 1,023 of a ring's 1,024 slots are in use, and counts have room
+abbrev pub are_old_words : (head doorbell : ℕ) → Bool
+are_old_words head doorbell =
+    nat_le head doorbell && (nat_le (doorbell - head) 1023 && nat_le doorbell (2 ^ 63))
+
+-- the first of `count` queues, from this one on, of which they are not
+unfoldable pub old_words_fault : (count queue : ℕ) → List ℕ → Option FileFault
+old_words_fault zero queue file = None
+old_words_fault (suc count) queue file =
+    if are_old_words (head_in queue file) (doorbell_in queue file)
+    then old_words_fault count (queue + 1) file
+    else Some (OldWords queue)
+
+-- only version 1 has a ring that is moved
+unfoldable pub words_fault : (version : ℕ) → List ℕ → Option FileFault
+words_fault version file = if nat_eq version 1 then old_words_fault (queues_in file) 0 file else None
+
 -- ---- all
 
 abbrev pub extra_fault : ℕ → List ℕ → Option FileFault
 extra_fault end file = unless (nat_le (length file) end) (Extra (length file - end))
 
--- the first fault of a file with this geometry
+-- the first fault of the parts of a file with this geometry
 abbrev pub body_fault : Geometry → List ℕ → Option FileFault
 body_fault g file =
     or_then (length_fault g file) (or_then (block_fault g file) (extra_fault (blocks_end file) file))
 
 -- the first fault of a file of this shape
 unfoldable pub fault_of : Result Geometry GeometryRefusal → List ℕ → Option FileFault
-fault_of (Ok g) file = or_then (header_fault (Ok g) file) (body_fault g file)
+fault_of (Ok g) file =
+    or_then (header_fault (Ok g) file)
+    (or_then (body_fault g file) (words_fault (version_in file) file))
 fault_of (Err refusal) file = header_fault (Err refusal) file
 
 -- the first fault of a file, or none

@@ -21,6 +21,8 @@ pub enum FileFault {
     Zero { lba: u32 },
     /// This many bytes follow the last block.
     Extra { bytes: u64 },
+    /// The doorbell and head of this queue, in a file of version 1, are not those of a ring of 1,024 slots.
+    OldWords { queue: u32 },
     OutOfMemory,
 }
 

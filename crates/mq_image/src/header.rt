@@ -2,19 +2,14 @@
 ghost use Rattle.std.specs.Prelude.{◌≡◌, ◌≤◌, ◌<◌, ◌+◌, ◌*◌, None, Ok, Result, Some, IfErr, IfOk, length};
 ghost use Rattle.mq_image.specs.Faults.{Finds, HasShape, IsGeometryIn, unless, short_fault, header_fault};
 ghost use Rattle.mq_image.specs.Faults.{length_fault, extra_fault, geometry_fault, count_in, blocks_end};
+ghost use Rattle.mq_image.specs.Reads.{IsHeaderIn};
 ghost use Rattle.mq_blocks.specs.Geometry.{blocks_of_drive};
-ghost use Rattle.mq_blocks.specs.Windows.{number_at};
 ghost use Rattle.mq_blocks.specs.declared.geometry.GeometryRefusal.{GeometryRefusal};
 
 use crate::fault::FileFault;
+use crate::version::{end_of_rings, is_known};
 use mq_blocks::Geometry;
 use mq_blocks::bytes::{u32_at, u64_at};
-
-/// The number of bytes before the rings.
-pub const HEADER: usize = 40;
-
-/// The number of bytes of a queue's words and ring.
-pub const RING: usize = 65_552;
 
 /// The number of bytes of a block and its Lba.
 pub const RECORD: usize = 4_100;
@@ -24,6 +19,7 @@ pub const MAGIC: &[u8; 8] = b"MQFSIMG1";
 /// The header of a file.
 #[derive(Clone, Copy)]
 pub struct Header {
+    pub version: u32,
     pub geometry: Geometry,
     pub base: u64,
 }
@@ -54,7 +50,7 @@ pub fn check_extra(file: &[u8], end: usize) -> Result<(), FileFault>
 
 /// The geometry in the header of a file.
 fn read_geometry(file: &[u8]) -> Result<Geometry, FileFault>
-    requires { HEADER ≤ length file.now }
+    requires { 40 ≤ length file.now }
     ensures is { IfOk result (IsGeometryIn file.now) }
     ensures refused { IfErr result (λ e. (shape : Result Geometry GeometryRefusal)
         → HasShape file.now shape
@@ -70,10 +66,7 @@ fn read_geometry(file: &[u8]) -> Result<Geometry, FileFault>
 /// The header of a file, or its first fault.
 #[tactic(auto, unfolding(crate::specs::Faults::header_fault))]
 pub fn read_header(file: &[u8]) -> Result<Header, FileFault>
-    ensures none { IfOk result (λ h. header_fault (Ok h.geometry) file.now ≡ None) }
-    ensures geometry { IfOk result (λ h. IsGeometryIn file.now h.geometry) }
-    ensures base { IfOk result (λ h. h.base ≡ number_at 8 32 file.now) }
-    ensures room { IfOk result (λ h. 40 ≤ length file.now) }
+    ensures read { IfOk result (IsHeaderIn file.now) }
     ensures refused { IfErr result (λ e. (shape : Result Geometry GeometryRefusal)
         → HasShape file.now shape
         → header_fault shape file.now ≡ Some e) }
@@ -84,26 +77,28 @@ pub fn read_header(file: &[u8]) -> Result<Header, FileFault>
         FileFault::Magic,
     )?;
     let version = u32_at(file, 8);
-    check(version == 1, FileFault::Version { found: version })?;
+    check(is_known(version), FileFault::Version { found: version })?;
     let geometry = read_geometry(file)?;
     let reserved = u32_at(file, 28);
     check(reserved == 0, FileFault::Reserved { found: reserved })?;
     Ok(Header {
+        version,
         geometry,
         base: u64_at(file, 32),
     })
 }
 
-/// The number of blocks in a file of this geometry, once the file is found to have them.
+/// The number of blocks in a file with this header, once the file is found to have them.
 #[tactic(auto, unfolding(crate::specs::Faults::length_fault))]
-pub fn read_count(file: &[u8], geometry: Geometry) -> Result<u32, FileFault>
-    requires head { IsGeometryIn file.now geometry }
-    ensures finds { Finds (length_fault geometry file.now) result }
+pub fn read_count(file: &[u8], header: &Header) -> Result<u32, FileFault>
+    requires head { IsHeaderIn file.now header.now }
+    ensures finds { Finds (length_fault header.now.geometry file.now) result }
     ensures is { IfOk result (λ count. count ≡ count_in file.now) }
-    ensures most { IfOk result (λ count. count ≤ blocks_of_drive geometry) }
+    ensures most { IfOk result (λ count. count ≤ blocks_of_drive header.now.geometry) }
     ensures room { IfOk result (λ count. blocks_end file.now ≤ length file.now) }
 {
-    let count_at = HEADER + RING * geometry.queues() as usize;
+    let geometry = header.geometry;
+    let count_at = end_of_rings(header.version, geometry.queues());
     check_length(file, count_at as u64 + 4)?;
     let count = u32_at(file, count_at);
     check(

@@ -1,13 +1,11 @@
 // A queue's words and ring in a file.
 ghost use Rattle.std.specs.Prelude.{◌≡◌, ◌≤◌, ◌<◌, ◌+◌, ◌*◌, ◌^◌, ◌++◌, ℕ, [], All, length, IfOk};
-ghost use Rattle.mq_blocks.specs.Limits.{depth};
 ghost use Rattle.std.specs.List.{flat_map};
 ghost use Rattle.mq_blocks.specs.Windows.{window, number_at, Shows};
 ghost use Rattle.mq_nvme.specs.Dwords.{AreDwords, dword_bytes};
 
-use crate::header::RING;
+use mq_blocks::OutOfMemory;
 use mq_blocks::bytes::u64_at;
-use mq_blocks::{OutOfMemory, RING_DEPTH};
 use mq_nvme::Entry;
 use std::alloc::Global;
 
@@ -22,14 +20,19 @@ fn entry_at(file: &[u8], at: usize) -> Entry
 }
 
 /// The slots of a ring that stand from `at` on.
-pub fn read_slots(alloc: Global, file: &[u8], at: usize) -> Result<Vec<Entry>, OutOfMemory>
-    requires { at + 65536 ≤ length file.now }
+pub fn read_slots(
+    alloc: Global,
+    file: &[u8],
+    at: usize,
+    depth: u32,
+) -> Result<Vec<Entry>, OutOfMemory>
+    requires { at + 64 * depth ≤ length file.now }
     ensures count { IfOk result (λ v. length v.items ≡ depth) }
     ensures dwords { IfOk result (λ v. All (λ e. AreDwords 16 e) v.items) }
-    ensures bytes { IfOk result (λ v. flat_map dword_bytes v.items ≡ window file.now at 65536) }
+    ensures bytes { IfOk result (λ v. flat_map dword_bytes v.items ≡ window file.now at (64 * depth)) }
 {
-    let mut slots = Vec::with_capacity(alloc, RING_DEPTH as usize)?;
-    for slot in 0..RING_DEPTH as usize {
+    let mut slots = Vec::with_capacity(alloc, depth as usize)?;
+    for slot in 0..depth as usize {
         slots.push(entry_at(file, at + 64 * slot))?;
     }
     Ok(slots)

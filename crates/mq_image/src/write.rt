@@ -7,11 +7,12 @@ ghost use Rattle.mq_nvme.specs.Dwords.{dword_bytes};
 ghost use Rattle.mq_image.specs.Drives.{IsDrive};
 ghost use Rattle.mq_image.specs.File.{HasArea, all_blocks, areas, file_bytes, header_bytes, image_bytes};
 ghost use Rattle.mq_image.specs.File.{kept, namespace, one_of, record_bytes, record_count, records};
-ghost use Rattle.mq_image.specs.File.{ring_bytes, zones};
+ghost use Rattle.mq_image.specs.File.{ring_bytes, written_version, zones};
 
-use crate::header::{HEADER, MAGIC, RECORD, RING};
+use crate::header::{MAGIC, RECORD};
 use crate::image::DriveImage;
 use crate::place::is_zeros;
+use crate::version::{VERSION, end_of_rings};
 use mq_blocks::{Block, Geometry, OutOfMemory};
 use mq_drive::PortImage;
 use mq_nvme::Entry;
@@ -50,10 +51,10 @@ fn write_ports(
     requires few { length queues.now ≤ 16 }
     requires areas { All (HasArea geometry) queues.now }
     requires size { length (namespace geometry queues.now root.now) ≤ 294912 }
-    ensures { IfOk result (λ v. v.items ≡ file_bytes geometry queues.now root.now) }
+    ensures { IfOk result (λ v. v.items ≡ file_bytes written_version geometry queues.now root.now) }
 {
     let count = count_ports(queues) + count_port(root);
-    let length = HEADER + RING * queues.len() + 4 + RECORD * count as usize;
+    let length = end_of_rings(VERSION, queues.len() as u32) + 4 + RECORD * count as usize;
     let mut file = bytes;
     file.clear();
     file.reserve_exact(length)?;
@@ -129,10 +130,10 @@ fn put_u64(file: &mut Vec<u8>, number: u64) -> Result<(), OutOfMemory>
 }
 
 fn put_header(file: &mut Vec<u8>, geometry: Geometry, base: u64) -> Result<(), OutOfMemory>
-    ensures { IfOk result (λ _. file.new.items ≡ file.old.items ++ header_bytes geometry base) }
+    ensures { IfOk result (λ _. file.new.items ≡ file.old.items ++ header_bytes written_version geometry base) }
 {
     put_bytes(file, MAGIC)?;
-    put_u32(file, 1)?;
+    put_u32(file, VERSION)?;
     put_u32(file, geometry.queues())?;
     put_u32(file, geometry.area())?;
     put_u32(file, geometry.meta())?;

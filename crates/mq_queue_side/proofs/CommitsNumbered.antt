@@ -1,12 +1,17 @@
 -- A numbered commit, whose descriptor is written.
-use Rattle.std.proofs.Common.{◌≡◌, ℕ, zero, suc, ◌+◌, ◌≤◌, List, length, ap, ◌∙◌, refl, arith}
+use Rattle.std.proofs.Common.{◌≡◌, ℕ, zero, suc, ◌+◌, ◌<◌, ◌≤◌, List, Option, Some, None, length, sym, ap, ◌∙◌, refl, arith}
 use Rattle.std.proofs.lemmas.List.{length-map}
 use Rattle.mq_blocks.specs.Descriptor.{Descriptor, further, further_block, further_for, journal_form, last_block}
 use Rattle.mq_blocks.specs.Limits.{newest_version}
-use Rattle.mq_blocks.proofs.DescriptorLimits.{further-most}
+use Rattle.mq_blocks.proofs.DescriptorLimits.{further-most, further-none, further-one}
 use Rattle.mq_queue_side.specs.Commits.{Commit, descriptor_with, further_of, further_where, numbered_with}
-use Rattle.mq_queue_side.specs.Parts.{numbered_by}
+use Rattle.mq_queue_side.specs.Parts.{HasFurther, count_of, numbered_by}
 use Rattle.mq_queue_side.specs.declared.commit.Position.{Position}
+
+-- it is taken where the entries ask for one
+pub counted : (count : ℕ) (before : Option (List ℕ)) → HasFurther count before → count_of before ≡ further_for count
+counted count None few = sym (further-none count few)
+counted count (Some block) many = sym (further-one count many)
 
 -- the further block counts only if there is one
 further_same : (count : ℕ) (a b : List ℕ) → count ≤ 1 → (count ≡ 1 → a ≡ b) → further_where count a ≡ further_where count b

@@ -1,5 +1,5 @@
 -- Writes, parted by a plan.
-use Rattle.std.proofs.Common.{◌≡◌, ℕ, ◌+◌, ◌≤◌, true, false, List, [], ◌∷◌, length, map, refl, sym, ap, subst, ◌∙◌, inl, inr, arith, eqb}
+use Rattle.std.proofs.Common.{◌≡◌, ℕ, ◌+◌, ◌≤◌, true, false, List, [], ◌∷◌, Option, length, map, refl, sym, ap, subst, ◌∙◌, inl, inr, arith, eqb}
 use Rattle.std.proofs.lemmas.Bool.{cases_Bool, eqb-true, false≢true}
 use Rattle.std.proofs.lemmas.List.{length-map}
 use Rattle.mq_blocks.specs.Descriptor.{AreRising}
@@ -16,7 +16,7 @@ use Rattle.mq_revoke.specs.Placed.{Placed}
 use Rattle.mq_revoke.proofs.Placed.{rising-same}
 use Rattle.mq_pmr.specs.Runs.{Items}
 use Rattle.mq_queue_side.specs.Commits.{Commit, commit_by, written_in, IsPlanOf}
-use Rattle.mq_queue_side.specs.Parts.{writes_of, pages_in, pages_out, AreLeft, ArePartsOf}
+use Rattle.mq_queue_side.specs.Parts.{writes_of, pages_in, pages_out, AreLeft, ArePartsOf, HasFurther}
 
 abbrev blocks_in : List Write → List ℕ
 blocks_in ws = map (λ w. w.block) ws
@@ -153,8 +153,8 @@ module _ (homes : ℕ) (ws : List Write) (plan : Placed) (is : IsPlanOf homes (b
     pub commit_is : (revoked : List ℕ) → revoked ≡ plan.revoked → commit_with (writes_of listed) (writes_of others) revoked ≡ commit_by plan ws
     commit_is revoked e = λ i. commit_with (logged_are i) (direct_are i) (e i)
 
-    pub parts : (blocks revoked : List ℕ) (items : Items) (capacity : ℕ) → length ws ≤ list_limit → blocks ≡ plan.logged → revoked ≡ plan.revoked → items ≡ [] → length ws + 2 ≤ capacity → ArePartsOf (writes_of listed) (writes_of others) blocks revoked items capacity
-    parts blocks revoked items capacity limit are_blocks are_revoked none room =
+    pub parts : (blocks revoked : List ℕ) (before : Option (List ℕ)) (items : Items) (capacity : ℕ) → length ws ≤ list_limit → blocks ≡ plan.logged → revoked ≡ plan.revoked → HasFurther (length plan.logged + length plan.revoked) before → items ≡ [] → length ws + 2 ≤ capacity → ArePartsOf (writes_of listed) (writes_of others) blocks revoked before items capacity
+    parts blocks revoked before items capacity limit are_blocks are_revoked further none room =
         let a : length blocks ≡ length plan.logged = ap length are_blocks in
         let b : length revoked ≡ length plan.revoked = ap length are_revoked in
         let l : length (writes_of listed) ≡ length (written_in plan.logged ws) = ap length logged_are in
@@ -162,6 +162,7 @@ module _ (homes : ℕ) (ws : List Write) (plan : Placed) (is : IsPlanOf homes (b
         record {
           blocks_are = are_blocks ∙ sym logged_blocks ∙ ap blocks_of (sym logged_are);
           counts = omega (arith, a, b, few, limit);
+          further = subst (λ (n : ℕ). HasFurther n before) (sym (omega (arith, a, b))) further;
           none = none;
           room = omega (arith, l, d, size, room);
         }

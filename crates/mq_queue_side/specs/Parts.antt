@@ -1,5 +1,5 @@
 -- The parts of a commit, as the calls build them.
-use Rattle.std.specs.Prelude.{◌≡◌, ◌<◌, ◌≤◌, ℕ, ◌+◌, ◌^◌, Bool, true, false, List, [], ◌∷◌, length, map, nat_eq, if◌then◌else◌}
+use Rattle.std.specs.Prelude.{◌≡◌, ◌<◌, ◌≤◌, ℕ, ◌+◌, ◌^◌, Bool, true, false, List, [], ◌∷◌, Option, Some, None, length, map, nat_eq, if◌then◌else◌}
 use Rattle.mq_blocks.specs.Descriptor.{AreRising}
 use Rattle.mq_blocks.specs.Limits.{list_limit}
 use Rattle.mq_blocks.specs.Journal.{is_among}
@@ -36,11 +36,27 @@ pub record AreLeft (blocks : List ℕ) (pages : List ShadowPage) : Type 0 where
   pub pages_rising : AreRising low high (blocks_of (writes_of pages))
   pub within : (x : ℕ) → is_among x blocks ≡ true → is_among x (blocks_of (writes_of pages)) ≡ true
 
--- The descriptor's lists are of these blocks and fit a descriptor, and the memory is there for the items.
-pub record ArePartsOf (logged direct : Writes) (blocks revoked : List ℕ) (items : Items)
-    (capacity : ℕ) : Type 0 where
+-- a further block is taken for so many entries only where they ask for one
+abbrev pub HasFurther : ℕ → Option (List ℕ) → Type 0
+HasFurther count None = count ≤ 1010
+HasFurther count (Some block) = 1010 < count
+
+-- how many further blocks that are, and what stands in it
+abbrev pub count_of : Option (List ℕ) → ℕ
+count_of None = 0
+count_of (Some block) = 1
+
+abbrev pub bytes_in : Option (List ℕ) → List ℕ
+bytes_in None = []
+bytes_in (Some block) = block
+
+-- The descriptor's lists are of these blocks and fit a descriptor, and the memory is there for its blocks
+-- and for the items.
+pub record ArePartsOf (logged direct : Writes) (blocks revoked : List ℕ) (before : Option (List ℕ))
+    (items : Items) (capacity : ℕ) : Type 0 where
   pub blocks_are : blocks ≡ blocks_of logged
   pub counts : length blocks + length revoked ≤ list_limit
+  pub further : HasFurther (length blocks + length revoked) before
   pub none : items ≡ []
   pub room : length logged + length direct + 2 ≤ capacity
 
@@ -63,7 +79,9 @@ numbered_by commit number at last further = record {
 }
 
 -- its place is a number of 64 bits, and the memory is there for the items
-pub record AreNumberedParts (n : NumberedCommit) (items : Items) (capacity : ℕ) : Type 0 where
+pub record AreNumberedParts (n : NumberedCommit) (before : Option (List ℕ)) (items : Items)
+    (capacity : ℕ) : Type 0 where
   pub place_fits : place_of n < 2 ^ 64
+  pub count : HasFurther (length n.commit.logged + length n.commit.revoked) before
   pub none : items ≡ []
   pub room : length n.commit.logged + length n.commit.direct + 2 ≤ capacity

@@ -1,15 +1,16 @@
 // A transaction's writes: prepared, and then numbered.
 ghost use Rattle.std.specs.Prelude.{◌≡◌, ◌<◌, ◌≤◌, ◌+◌, ◌++◌, ◌∷◌, ◌^◌, ℕ, true, [], length, reverse, vec_len, vec_capacity, IfOk};
 ghost use Rattle.mq_blocks.specs.Copies.{copies_at, directs_of};
-ghost use Rattle.mq_blocks.specs.Descriptor.{journal_form};
+ghost use Rattle.mq_blocks.specs.Descriptor.{Descriptor as Text, further, further_block, journal_form, last_block};
+ghost use Rattle.mq_blocks.specs.Limits.{list_limit, newest_version};
 ghost use Rattle.mq_blocks.specs.Geometry.{queues_of, homes_of};
 ghost use Rattle.mq_blocks.specs.Journal.{is_among};
 ghost use Rattle.mq_ledger.specs.History.{blocks_of};
 ghost use Rattle.mq_queue_side.specs.Commits.{items_of, further_of, descriptor_at, numbered_with};
-ghost use Rattle.mq_queue_side.specs.Parts.{writes_of};
+ghost use Rattle.mq_queue_side.specs.Parts.{HasFurther, bytes_in, count_of, writes_of};
 ghost use Rattle.mq_queue_side.specs.Sent.{AreInZone};
 
-use mq_area::{Descriptor, write_descriptor};
+use mq_area::{Descriptor, write_descriptor, write_one_block};
 use mq_blocks::{Block, BlockNo, Geometry, Lba, QueueNo, TxNo, further_blocks};
 use mq_pages::ShadowPage;
 use std::marker::Model;
@@ -25,7 +26,7 @@ pub struct Prepared {
     pub(crate) blocks: Vec<BlockNo>,
     pub(crate) revoked: Vec<BlockNo>,
     pub(crate) block: Block,
-    pub(crate) further: Block,
+    pub(crate) further: Option<Block>,
     // room for the items of the ring
     pub(crate) items: Vec<(Lba, Block)>,
 }
@@ -40,7 +41,7 @@ impl Model for Prepared {
     ghost view = { λ p. commit_with p.logged.items p.direct.items p.revoked.items };
 
     ghost invariant = { λ p. ArePartsOf (writes_of p.logged.items) (writes_of p.direct.items)
-        p.blocks.items p.revoked.items p.items.items (vec_capacity p.items) };
+        p.blocks.items p.revoked.items p.further p.items.items (vec_capacity p.items) };
 }
 
 /// A transaction that was drawn: its writes, its number and its place on its queue. Its descriptor is
@@ -54,24 +55,24 @@ pub struct Numbered {
     // the descriptor, and the blocks in which it is written
     descriptor: Descriptor,
     block: Block,
-    further: Block,
+    further: Option<Block>,
     items: Vec<(Lba, Block)>,
 }
 
 impl Model for Numbered {
     ghost use Rattle.std.specs.Prelude.{vec_capacity};
     ghost use Rattle.mq_queue_side.specs.Commits.{NumberedCommit};
-    ghost use Rattle.mq_queue_side.specs.Parts.{commit_with, numbered_by, AreNumberedParts};
+    ghost use Rattle.mq_queue_side.specs.Parts.{bytes_in, commit_with, numbered_by, AreNumberedParts};
 
     ghost Value = { NumberedCommit };
 
     ghost view = { λ n. numbered_by (commit_with n.logged.items n.direct.items n.descriptor.revoked)
-        n.number n.at n.block n.further };
+        n.number n.at n.block (bytes_in n.further) };
 
     ghost invariant = { λ n. AreNumberedParts
         (numbered_by (commit_with n.logged.items n.direct.items n.descriptor.revoked)
-        n.number n.at n.block n.further)
-        n.items.items (vec_capacity n.items) };
+        n.number n.at n.block (bytes_in n.further))
+        n.further n.items.items (vec_capacity n.items) };
 }
 
 /// Where a transaction stands on its queue: the place of its first copy, and number and place of the
@@ -116,8 +117,7 @@ impl Prepared {
             revoked: self.revoked,
         };
         let mut block = self.block;
-        let mut further = self.further;
-        write_descriptor(&descriptor, &mut block, &mut further);
+        let further = write_blocks(&descriptor, &mut block, self.further);
         Numbered {
             logged: self.logged,
             direct: self.direct,
@@ -127,6 +127,26 @@ impl Prepared {
             block,
             further,
             items: self.items,
+        }
+    }
+}
+
+// Writes a descriptor into its blocks, and gives the further one back.
+fn write_blocks(d: &Descriptor, block: &mut Block, before: Option<Block>) -> Option<Block>
+    requires counts { length d.now.logged + length d.now.revoked ≤ list_limit }
+    requires before { HasFurther (length d.now.logged + length d.now.revoked) before }
+    ensures last { block.new ≡ last_block journal_form newest_version d.now }
+    ensures rest { further d.now ≡ 1 → bytes_in result ≡ further_block journal_form newest_version d.now }
+    ensures has { HasFurther (length d.now.logged + length d.now.revoked) result }
+{
+    match before {
+        Some(mut further) => {
+            write_descriptor(d, block, &mut further);
+            Some(further)
+        }
+        None => {
+            write_one_block(d, block);
+            None
         }
     }
 }
@@ -198,21 +218,21 @@ fn add_descriptor(
     geometry: Geometry,
     queue: QueueNo,
     first: u64,
-    count: u64,
-    further: Block,
+    further: Option<Block>,
     block: Block,
 )
     requires queue { queue < queues_of geometry }
     requires room { length items.old.items + 2 ≤ vec_capacity items.old }
-    requires places { first + count < 2 ^ 64 }
-    ensures { items.new.items ≡ items.old.items ++ descriptor_at geometry queue first count further block }
+    requires places { first + count_of further < 2 ^ 64 }
+    ensures { items.new.items ≡ items.old.items ++ descriptor_at geometry queue first
+        (count_of further) (bytes_in further) block }
 {
-    if count == 0 {
+    let Some(further) = further else {
         add(items, geometry.area_lba(queue, first), block);
         return;
-    }
+    };
     add(items, geometry.area_lba(queue, first), further);
-    add(items, geometry.area_lba(queue, first + count), block);
+    add(items, geometry.area_lba(queue, first + 1), block);
 }
 
 impl Numbered {
@@ -234,13 +254,12 @@ impl Numbered {
             direct,
             number: _,
             at,
-            descriptor,
+            descriptor: _,
             block,
             further,
             mut items,
         } = self;
         let copies = logged.len() as u64;
-        let count = further_blocks(copies + descriptor.revoked.len() as u64);
         add_copies(&mut items, geometry, at.queue, at.first, logged);
         add_directs(&mut items, geometry, direct);
         add_descriptor(
@@ -248,7 +267,6 @@ impl Numbered {
             geometry,
             at.queue,
             at.first + copies,
-            count,
             further,
             block,
         );

@@ -5,11 +5,11 @@ ghost use Rattle.mq_blocks.specs.Geometry.{homes_of, write_limit};
 ghost use Rattle.mq_ledger.specs.History.{blocks_of};
 ghost use Rattle.mq_pages.specs.Shadows.{shadow_of};
 ghost use Rattle.mq_queue_side.specs.Commits.{IsPlanOf, commit_by};
-ghost use Rattle.mq_queue_side.specs.Parts.{is_head, pages_in, pages_out, AreLeft};
+ghost use Rattle.mq_queue_side.specs.Parts.{is_head, pages_in, pages_out, AreLeft, HasFurther};
 
 use crate::commit::take_first;
 use crate::{Prepared, QueueSide};
-use mq_blocks::{Block, BlockNo, OutOfMemory};
+use mq_blocks::{Block, BlockNo, ENTRIES_IN_ONE, OutOfMemory};
 use mq_drive::Port;
 use mq_pages::{ShadowPage, Write, shadow};
 use mq_revoke::Placement;
@@ -58,6 +58,16 @@ fn part(
     Ok(Parted { listed, others })
 }
 
+// The further block of a descriptor with so many entries, where they ask for one.
+fn take_further(alloc: Global, count: u64) -> Result<Option<Block>, OutOfMemory>
+    ensures { IfOk result (HasFurther count) }
+{
+    if count <= ENTRIES_IN_ONE {
+        return Ok(None);
+    }
+    Ok(Some(Block::zeroed(alloc)?))
+}
+
 // Shadows of the writes, parted by a plan, and the memory for their way into the ring.
 fn prepare_commit(
     alloc: Global,
@@ -80,7 +90,7 @@ fn prepare_commit(
         blocks: Vec::from_slice(alloc, &plan.logged)?,
         revoked: Vec::from_slice(alloc, &plan.revoked)?,
         block: Block::zeroed(alloc)?,
-        further: Block::zeroed(alloc)?,
+        further: take_further(alloc, plan.logged.len() as u64 + plan.revoked.len() as u64)?,
         items: Vec::with_capacity(alloc, writes.len() + 2)?,
     })
 }

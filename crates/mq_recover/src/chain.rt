@@ -7,14 +7,15 @@ ghost use Rattle.mq_blocks.specs.Descriptor.{Descriptor as Text, first_place, fu
 ghost use Rattle.mq_blocks.specs.Drive.{IsQuiescent};
 ghost use Rattle.mq_blocks.specs.Geometry.{queues_of, area_of, area_lba};
 ghost use Rattle.mq_blocks.specs.Journal.{Shown, IsQueueChain};
+ghost use Rattle.mq_area.specs.Reading.{further_of, header_of};
 ghost use Rattle.mq_nvme.specs.Says.{says};
 ghost use Rattle.mq_drive.specs.Start.{IsPortOf};
 ghost use Rattle.mq_recover.specs.Recover.{IsSeenAt, IsQueuePort, where_of};
 ghost use Rattle.mq_recover.specs.Refusals.{AreWords, AreRung, IsRungWhole, IsGreatest, IsNewest, IsIndex, IsWholeChain, IsFoundNext, IsReadable};
-ghost use Rattle.mq_recover.specs.Refusals.{RefusesEntry, RefusesNewest, RefusesNext, RefusesChain, RefusesRung, RefusesQueue, entry_at};
+ghost use Rattle.mq_recover.specs.Refusals.{RefusesEntry, RefusesNewest, RefusesNext, RefusesChain, RefusesRung, RefusesQueue, before_where, entry_at};
 
 use crate::refusal::ChainRefusal;
-use mq_area::{Descriptor, DescriptorRefusal, Expect, PlaceIs, read_descriptor};
+use mq_area::{Descriptor, DescriptorRefusal, Expect, PlaceIs, has_further, read_descriptor};
 use mq_blocks::{Block, Geometry, QueueNo, RING_DEPTH, TxNo, USABLE_DEPTH, further_blocks};
 use mq_drive::{Port, Role};
 use mq_nvme::{WriteReq, read_write};
@@ -317,13 +318,7 @@ fn read_next<P: Port>(
 {
     let area = u64::from(geometry.area());
     read_area(geometry, at.queue, place_of(at), port, block);
-    read_area(
-        geometry,
-        at.queue,
-        place_of(at) % area + (area - 1),
-        port,
-        before,
-    );
+    read_before(geometry, at, port, block, before);
     let next = match read_descriptor(alloc, geometry, at, block, before) {
         Ok(descriptor) => descriptor,
         Err(cause) => return Err(refused_at(at.number.0, cause)),
@@ -334,6 +329,29 @@ fn read_next<P: Port>(
         return Err(ChainRefusal::Span { oldest, newest });
     }
     Ok(next)
+}
+
+// Reads the block before the one in which a descriptor is expected, where that one's lists go on there.
+fn read_before<P: Port>(
+    geometry: Geometry,
+    at: &Expect,
+    port: &P,
+    block: &Block,
+    before: &mut Block,
+)
+    requires queue { at.now.queue < queues_of geometry }
+    requires port { IsPortOf geometry (Role.Queue at.now.queue) (P.state port.now) }
+    requires quiet { IsQuiescent (P.state port.now) }
+    ensures is { further_of (header_of block.now) ≡ 1
+        → before.new ≡ before_where geometry (P.state port.now) at.now.place }
+    ensures whole { length block.now ≡ 4096 }
+{
+    if !has_further(block) {
+        return;
+    }
+    let area = u64::from(geometry.area());
+    let place = place_of(at) % area + (area - 1);
+    read_area(geometry, at.queue, place, port, before);
 }
 
 // The place of the first copy of a transaction.

@@ -11,7 +11,7 @@ use Rattle.mq_blocks.specs.declared.geometry.Geometry.{Geometry}
 use Rattle.mq_blocks.proofs.BlocksZeros.{length-zeros, zeros-at}
 use Rattle.mq_image.specs.Drives.{HasWidths, IsDrive, IsRead, emptied, without_blanks}
 use Rattle.mq_image.specs.File.{DriveImage, IsBlockSized, image_bytes, is_blank, kept, queue_ports, root_port}
-use Rattle.mq_image.proofs.FileUnique.{read-same}
+use Rattle.mq_image.proofs.FileForms.{formed-drive, read-formed}
 use Rattle.mq_image_ops.specs.Views.{view_of}
 use Rattle.mq_nvme.specs.Says.{says, journal_reading}
 
@@ -98,5 +98,5 @@ emptied-shows x drive fit =
 -- what is read of the file of an image shows what the image shows
 pub file-shows : (x y : DriveImage) → IsDrive x → All HasWidths x.ports → IsRead y (image_bytes x) → (y.geometry ≡ x.geometry) × (view_of y ≡ view_of x)
 file-shows x y drive fit read =
-    let same = read-same x y drive fit read in
+    let same = read-formed 2 (queue_ports x) (root_port x) x y (image_bytes x) (formed-drive x drive fit) read in
     (ap (λ (z : DriveImage). z.geometry) same, ap view_of same ∙ emptied-shows x drive fit)

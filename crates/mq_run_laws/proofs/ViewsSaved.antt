@@ -12,7 +12,7 @@ use Rattle.mq_drive.specs.declared.emu.EmuPort.{EmuPort}
 use Rattle.mq_image.specs.Drives as file
 use Rattle.mq_image.specs.Faults.{HasFault}
 use Rattle.mq_image.specs.File.{DriveImage, image_bytes, queue_ports, root_port}
-use Rattle.mq_image.proofs.FileWritten.{no-fault}
+use Rattle.mq_image.proofs.FileForms.{formed-drive, formed-good}
 use Rattle.mq_image_run.specs.Drives.{HasDriven, emu_ghosts}
 use Rattle.mq_image_run.specs.Runs.{IsLast, IsRunOf}
 use Rattle.mq_image_run.specs.declared.options.RunOptions.{RunOptions}
@@ -189,7 +189,7 @@ module _ (x : DriveImage) (scripts : List Script) (o : RunOptions) (r : ImageRun
   -- ---- its file
 
   pub file-whole : HasFault (image_bytes r.image) None
-  file-whole = no-fault r.image run.drive run.widths
+  file-whole = formed-good 2 (queue_ports r.image) (root_port r.image) r.image (image_bytes r.image) (formed-drive r.image run.drive run.widths)
 
   -- what is read of the file reaches the same, and recovery of it leaves the volume
   file-cut : (z : DriveImage) → file.IsRead z (image_bytes r.image) → IsCut g scripts volume r.base r.entries.items r.answers.items (view_of z) is-a-cut.0

@@ -7,7 +7,7 @@ ghost use Rattle.mq_drive.specs.Seats.{name_of, fuse_of, tickets_of};
 ghost use Rattle.mq_drive.specs.Start.{IsPortOf};
 ghost use Rattle.mq_drive.specs.declared.role.Role.TheVariants.{Queue};
 
-use mq_blocks::{Geometry, GeometryRefusal, OutOfMemory, QueueNo};
+use mq_blocks::{Geometry, GeometryRefusal, OutOfMemory, QueueNo, RING_DEPTH};
 use mq_drive::{EmuPort, Fuse, FuseSeat, PortImage, Role};
 use mq_nvme::Entry;
 use std::alloc::Global;
@@ -68,7 +68,7 @@ pub fn emulated<'f>(
     ensures doorbell { IfOk result (λ p. (emu_state p).doorbell ≡ 0) }
     ensures head { IfOk result (λ p. (emu_state p).head ≡ 0) }
 {
-    let image = fresh(alloc, 1024, 1264)?;
+    let image = fresh(alloc, RING_DEPTH as usize, 1264)?;
     EmuPort::new(
         alloc,
         fuse,

@@ -13,9 +13,8 @@ use mq_pmr::{PmrQueue, Took};
 use mq_watch::FlakyPort;
 use std::alloc::Global;
 
-// Items for the Lbas from 0 on.
+// Items for the places of the area from 0 on, round and round.
 fn items(alloc: Global, count: u32) -> Result<Vec<(Lba, Block)>, OutOfMemory>
-    requires { count ≤ 1024 }
     ensures own { IfOk result (λ v. (s : PortState)
         → s.area_first ≡ 0
         → s.area_size ≡ 1024
@@ -26,7 +25,7 @@ fn items(alloc: Global, count: u32) -> Result<Vec<(Lba, Block)>, OutOfMemory>
     let mut k = count;
     'filling: while k > 0 {
         k -= 1;
-        items.push((Lba(k), Block::zeroed(alloc)?))?;
+        items.push((Lba(k % 1024), Block::zeroed(alloc)?))?;
     }
     Ok(items)
 }
@@ -134,17 +133,17 @@ fn stops_at_the_flush<P: Port>(tried: &mut Tried<P>, alloc: Global) -> bool {
     tried.commit(alloc, 1, 22)
         && tried.drain(22)
         && tried.advance() == Err(Off)
-        && tried.room() == 1001
+        && tried.room() == 4073
 }
 
 // The head is stored and flushed again.
 fn advances_again<P: Port>(tried: &mut Tried<P>) -> bool {
-    tried.advance() == Ok(TxNo(1)) && tried.room() == 1023
+    tried.advance() == Ok(TxNo(1)) && tried.room() == 4095
 }
 
-// The rest of the ring is staged.
+// The rest of the ring is staged, at the counts 22 to 4,094.
 fn fills_the_ring<P: Port>(tried: &mut Tried<P>, alloc: Global) -> bool {
-    tried.stage(alloc, 2, 1001) && tried.room() == 0
+    tried.stage(alloc, 2, 4073) && tried.room() == 0
 }
 
 // 22 stages, flush, ring, 22 completions and the store of the head come before it.

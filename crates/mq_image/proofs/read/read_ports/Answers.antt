@@ -4,7 +4,7 @@ use Rattle.mq_image.proofs.read.read_ports.Goals as goal
 
 pub returns : goal.returns
 returns c =
-    ports-read _ _ _ _ _ _ _ _ _ _ _ c.in_ok-push.ensures.items c.requires.start c.requires.size c.in_ok-ports.ensures c.in_ok-blocks.ensures.gives
+    ports-read _ _ _ _ _ _ _ _ _ _ _ _ c.in_ok-push.ensures.items c.requires.start c.requires.size c.in_ok-ports.ensures c.in_ok-blocks.ensures.gives
     (record {
       blocks = c.in_ok-blocks.ensures.count ∙ c.meta.ensures;
       slots = ap length c.new.ensures.items;

@@ -24,4 +24,4 @@ loop-slot-preserved c =
     }
 
 pub returns-clause-bytes : goal.returns-clause-bytes
-returns-clause-bytes c = let n : 64 * c.loop-slot.slot ≡ 65536 = omega arith in c.loop-slot.invariant.bytes ∙ ap (λ (k : ℕ). window c.args.file.now c.args.at k) n
+returns-clause-bytes c = let n : 64 * c.loop-slot.slot ≡ 64 * c.args.depth = omega arith in c.loop-slot.invariant.bytes ∙ ap (λ (k : ℕ). window c.args.file.now c.args.at k) n

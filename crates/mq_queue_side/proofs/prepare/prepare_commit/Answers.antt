@@ -1,9 +1,9 @@
-use Rattle.std.proofs.Common.{◌≡◌, ℕ, ◌+◌, ◌≤◌, List, length, map, sym, ap, subst, ◌∙◌, arith, vec_capacity}
+use Rattle.std.proofs.Common.{◌≡◌, ℕ, ◌+◌, ◌≤◌, List, length, map, sym, ap, subst, ◌∙◌, arith, rules, vec_capacity}
 use Rattle.mq_pages.specs.Shadows.{shadow_of}
 use Rattle.mq_pages.specs.declared.page.ShadowPage.{ShadowPage}
 use Rattle.mq_pages.specs.declared.page.Write.{Write}
 use Rattle.mq_revoke.specs.Placed.{Placed}
-use Rattle.mq_queue_side.specs.Parts.{pages_in, pages_out, AreLeft}
+use Rattle.mq_queue_side.specs.Parts.{pages_in, pages_out, AreLeft, HasFurther}
 use Rattle.mq_queue_side.proofs.Parts.{are_left, commit_is, parts, placed_lists, placed_sizes}
 use Rattle.mq_queue_side.proofs.prepare.prepare_commit.Goals as goal
 
@@ -25,7 +25,13 @@ invariant_of-result c =
     let revoked : c.in_ok-from_slice-2.field-0.items ≡ plan.revoked = c.in_ok-from_slice-2.ensures.items ∙ c.deref-3.ensures.value ∙ ap (λ (p : Placed). p.revoked) c.plan.view_is in
     let exact = c.in_ok-with_capacity.ensures.exact in
     let room : length ws + 2 ≤ vec_capacity c.in_ok-with_capacity.field-0 = omega (arith, exact) in
-    parts c.requires.plan.0 ws plan c.requires.plan.1 _ _ in_listed in_others _ _ _ _ c.requires.few blocks revoked c.in_ok-with_capacity.ensures.items room
+    let logged_held : c.len.result ≡ length c.plan.inside.logged.items = search rules in
+    let revoked_held : c.len-2.result ≡ length c.plan.inside.revoked.items = search rules in
+    let logged_many : c.len.result ≡ length plan.logged = logged_held ∙ ap (λ (p : Placed). length p.logged) c.plan.view_is in
+    let revoked_many : c.len-2.result ≡ length plan.revoked = revoked_held ∙ ap (λ (p : Placed). length p.revoked) c.plan.view_is in
+    let further : HasFurther (length plan.logged + length plan.revoked) c.in_ok-take_further.field-0 =
+    subst (λ (n : ℕ). HasFurther n c.in_ok-take_further.field-0) (omega (arith, logged_many, revoked_many)) c.in_ok-take_further.ensures in
+    parts c.requires.plan.0 ws plan c.requires.plan.1 _ _ in_listed in_others _ _ _ _ _ c.requires.few blocks revoked further c.in_ok-with_capacity.ensures.items room
 
 pub returns-clause-commit : goal.returns-clause-commit
 returns-clause-commit c =

@@ -1,11 +1,10 @@
-use Rattle.std.proofs.Common.{◌≡◌, ◌≤◌, ℕ, ◌+◌, length}
+use Rattle.std.proofs.Common.{◌≡◌, ℕ, ◌+◌, length}
 use Rattle.mq_blocks.specs.Drive.{PortState}
 use Rattle.mq_pmr.specs.Runs.{OwnsAll}
 use Rattle.mq_test_drive.proofs.ring.items.Given as goal
 
 abbrev pub invariant-filling : goal.invariant-filling
 invariant-filling l = record {
-  low : l.k ≤ 1024;
   len : length l.items.items + l.k ≡ l.fn.count;
   own : (s : PortState) → s.area_first ≡ 0 → s.area_size ≡ 1024 → OwnsAll s l.items.items;
 }

@@ -1,14 +1,14 @@
 use Rattle.std.proofs.Common.{◌≡◌, ◌+◌, ℕ, true, length, refl, ap, subst, ◌∙◌, arith, rules, length-append, vec_len}
 use Rattle.std.proofs.lemmas.List.{length-map}
-use Rattle.mq_blocks.specs.Descriptor.{Descriptor, further_for}
 use Rattle.mq_blocks.specs.Journal.{is_among}
 use Rattle.mq_blocks.specs.Copies.{copies_at, directs_of}
 use Rattle.mq_ledger.specs.History.{blocks_of}
 use Rattle.mq_pages.specs.declared.page.ShadowPage.{ShadowPage}
 use Rattle.mq_pmr.specs.Runs.{Items}
 use Rattle.mq_queue_side.specs.Commits.{NumberedCommit, items_of}
-use Rattle.mq_queue_side.specs.Parts.{commit_with, writes_of, numbered_by}
+use Rattle.mq_queue_side.specs.Parts.{bytes_in, commit_with, writes_of, numbered_by}
 use Rattle.mq_queue_side.proofs.CommitsItems.{length_copies, length_directs, items_made}
+use Rattle.mq_queue_side.proofs.CommitsNumbered.{counted}
 use Rattle.mq_queue_side.proofs.SentReady.{zone_home}
 use Rattle.mq_queue_side.proofs.commit.Numbered.into_items.Goals as goal
 
@@ -45,6 +45,16 @@ add_descriptor-requires-clause-room c =
     let most = c.add_directs.ensures.capacity in
     omega (arith, none, all, both, size, home, long, room, more, most)
 
+pub add_descriptor-requires-clause-places : goal.add_descriptor-requires-clause-places
+add_descriptor-requires-clause-places c =
+    let n = c.self.inside in
+    let inv = c.self.invariant in
+    let copies : c.len-copies.result ≡ length n.logged.items = search rules in
+    let logged : length (writes_of n.logged.items) ≡ length n.logged.items = length-map n.logged.items (λ (p : ShadowPage). (p.block, p.content)) in
+    let count = counted (length (writes_of n.logged.items) + length n.descriptor.revoked) n.further inv.count in
+    let fits = inv.place_fits in
+    omega (arith, copies, logged, count, fits)
+
 pub returns : goal.returns
 returns c =
     let n = c.self.inside in
@@ -52,10 +62,7 @@ returns c =
     let copies : c.len-copies.result ≡ length n.logged.items = search rules in
     let logged : length (writes_of n.logged.items) ≡ length n.logged.items = length-map n.logged.items (λ (p : ShadowPage). (p.block, p.content)) in
     let place : n.at.first + c.len-copies.result ≡ n.at.first + length (writes_of n.logged.items) = omega (arith, copies, logged) in
-    let few : c.len.result ≡ length c.descriptor.inside.revoked.items = search rules in
-    let revoked : length c.descriptor.inside.revoked.items ≡ length n.descriptor.revoked = ap (λ (d : Descriptor). length d.revoked) c.descriptor.view_is in
-    let sum : c.len-copies.result + c.len.result ≡ length (writes_of n.logged.items) + length n.descriptor.revoked = omega (arith, copies, logged, few, revoked) in
-    let count : c.further_blocks-count.result ≡ further_for (length (writes_of n.logged.items) + length n.descriptor.revoked) = c.further_blocks-count.ensures.is ∙ ap further_for sum in
+    let count = counted (length (writes_of n.logged.items) + length n.descriptor.revoked) n.further inv.count in
     let P : NumberedCommit → Type 0 = λ x. c.add_descriptor.new.items.items ≡ items_of c.args.geometry x in
-    subst P c.self.view_is (items_made c.args.geometry (numbered_by (commit_with n.logged.items n.direct.items n.descriptor.revoked) n.number n.at n.block n.further) n.items.items c.add_copies.new.items.items c.add_directs.new.items.items _ _ _ _ _
+    subst P c.self.view_is (items_made c.args.geometry (numbered_by (commit_with n.logged.items n.direct.items n.descriptor.revoked) n.number n.at n.block (bytes_in n.further)) n.items.items c.add_copies.new.items.items c.add_directs.new.items.items _ _ _ _ _
     inv.none c.add_copies.ensures.items c.add_directs.ensures.items c.add_descriptor.ensures place count refl refl)

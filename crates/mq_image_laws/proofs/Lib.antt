@@ -1,0 +1,3 @@
+pub mod AlikeDrives
+pub mod AlikeQueues
+pub mod OldFiles
