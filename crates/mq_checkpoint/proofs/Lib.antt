@@ -2,8 +2,6 @@ pub mod StepsDrains
 pub mod Steps
 pub mod RaisedHomeSide
 pub mod PagesHomeViews
-pub mod StepsBySide
-pub mod StepsByRoot
 pub mod PagesVisits
 pub mod RaisedAtRoot
 pub mod StepsAtEnd

@@ -29,9 +29,10 @@ use Rattle.mq_queue_side.proofs.DrainedCompletes.{bound_now, bound_then, gains_r
 use Rattle.mq_turns.specs.Chairs.{giving, holding}
 use Rattle.mq_turns.specs.Desk.{Sees, refreshed, slot_of, turn_at}
 use Rattle.mq_turns.specs.Lists.{Each, times, without}
-use Rattle.mq_turns.specs.Meaning.{Meaning, raised}
+use Rattle.mq_turns.specs.Meaning.{Meaning, charged, raised}
 use Rattle.mq_turns.specs.Words
 use Rattle.mq_turns.specs.Words.{MayRaise, after_notice, same_turn}
+use Rattle.mq_turns.specs.declared.rule.Charge.{Charge}
 use Rattle.mq_turns.specs.declared.rule.Known.{Known}
 use Rattle.mq_turns.specs.declared.rule.Notice.TheVariants as notice
 use Rattle.mq_turns.specs.declared.rule.Report.TheVariants as report
@@ -40,7 +41,8 @@ use Rattle.mq_turns.specs.declared.turn.Turn.TheVariants as turn
 use Rattle.mq_turns.proofs.Lists.{hit}
 use Rattle.mq_turns.proofs.DeskSeen.{opening_seen, sees_before, stands_held, stands_renewed}
 use Rattle.mq_turns.proofs.DeskSlots.{turn_at_slot}
-use Rattle.mq_checkpoint.specs.Raised.{HasRaised, IsReportedOfRoot, IsStored, KeepsStanding, ShowsRootReport, reported_root}
+use Rattle.mq_checkpoint.specs.Ports.{IsCharged, charge_of}
+use Rattle.mq_checkpoint.specs.Raised.{HasRaised, IsStored, KeepsStanding}
 use Rattle.mq_checkpoint.specs.Steps.{IsRefusedBy, at_root}
 use Rattle.mq_checkpoint.proofs.RaisedHomeSide.{backed_by}
 use Rattle.mq_checkpoint.proofs.PagesHomeViews.{known_seen}
@@ -170,19 +172,22 @@ module _ {P E : Type 0} {G : Ghosts P} (state : P → PortState) (faults : P →
 
   -- ---- or its port refused
 
+  abbrev off_charge : Charge
+  off_charge = charge_of turn.Root cause.Off
+
   module _ (gains : Gains PowerOff (faults s.port) (faults u.port)) where
-    pub off_root : ShowsRootReport state faults group report.Off u v1
+    pub off_root : (K : Shared P E G) → Sees μ v1 K → IsRoot values group (charged off_charge K) u
     off_root K sees =
-        root_charged values group (reported_root report.Off) K s u refl (root_after (gained_more (faults s.port) (faults u.port) PowerOff gains) K sees) (root_now K sees).charged
+        root_charged values group off_charge K s u refl (root_after (gained_more (faults s.port) (faults u.port) PowerOff gains) K sees) (root_now K sees).charged
         (backed_by (Rule.geometry_of values group K) turn.Root K.charges (faults K.opening.root.port) (faults s.port) (faults u.port) report.Off PowerOff (off_backed (Rule.geometry_of values group K)) gains (root_now K sees).charged)
 
-    module _ (w : Seat P E G) (n : IsReportedOfRoot state faults group o report.Off v1 w) where
-      whole : w ≡ giving slot (after_notice μ (notice.Charge (reported_root report.Off)) n.known (holding slot K1 v))
-      whole = n.is ∙ ap (λ z. giving slot (after_notice μ (notice.Charge (reported_root report.Off)) n.known z)) took
+    module _ (w : Seat P E G) (n : IsCharged state faults group o off_charge v1 w) where
+      whole : w ≡ giving slot (after_notice μ (notice.Charge off_charge) n.known (holding slot K1 v))
+      whole = n.is ∙ ap (λ z. giving slot (after_notice μ (notice.Charge off_charge) n.known z)) took
 
       pub off_refused : IsRefusedBy state faults group [] cause.Off v w
       off_refused = record {
         port = turn.Root;
-        moves = moves_report v w 0 _ (reported_root report.Off) whole;
+        moves = moves_report v w 0 _ off_charge whole;
         caused = at_root K1 s u tt (known_seen state faults group v K1 sees1) is (gains_rises PowerOff (faults s.port) (faults u.port) gains);
       }

@@ -1,3 +1,4 @@
 pub mod Steps
 pub mod Pages
+pub mod Ports
 pub mod Raised

@@ -4,22 +4,16 @@ use Rattle.mq_blocks.specs.Drive.{PortState, IsBoundKept}
 use Rattle.mq_base_laws.specs.Bases.{BaseOk, RootStands}
 use Rattle.mq_drive.specs.Steps.{PortFault}
 use Rattle.mq_drive.specs.declared.port.Port.{Ghosts}
-use Rattle.mq_journal.specs.Numbers.{Seat, Shared, Start, machine, values}
+use Rattle.mq_journal.specs.Numbers.{Seat, Shared, values}
 use Rattle.mq_ledger.specs.KnownJournal.{KnownJournal}
 use Rattle.mq_pages.specs.declared.page.PageCell.{PageCell}
 use Rattle.mq_desk_laws.specs.Groups.{GroupView}
 use Rattle.mq_desk_laws.specs.Rule.{IsOk, IsRoot}
 use Rattle.mq_queue_side.specs.Roots.{after_raise}
 use Rattle.mq_queue_side.specs.declared.root.Root.{Root}
-use Rattle.mq_turns.specs.Chairs.{giving}
-use Rattle.mq_turns.specs.Desk.{Below, Sees, slot_of}
-use Rattle.mq_turns.specs.Meaning.{charged, raised}
-use Rattle.mq_turns.specs.Words.{after_notice}
+use Rattle.mq_turns.specs.Desk.{Below}
+use Rattle.mq_turns.specs.Meaning.{raised}
 use Rattle.mq_turns.specs.declared.rule.MarkAnswer.TheVariants.{Front}
-use Rattle.mq_turns.specs.declared.rule.Charge.{Charge}
-use Rattle.mq_turns.specs.declared.rule.Notice.TheVariants as notice
-use Rattle.mq_turns.specs.declared.rule.Report.{Report}
-use Rattle.mq_turns.specs.declared.turn.Turn.TheVariants as turn
 use Rattle.mq_checkpoint.specs.Steps.{IsKnownFrom, RefusesCheckpoint}
 use Rattle.mq_checkpoint.specs.declared.refusal.CheckpointRefusal.{CheckpointRefusal}
 
@@ -37,10 +31,6 @@ abbrev pub HasRaised : {P : Type 0} {G : Ghosts P} → (P → PortState) → (ba
 HasRaised state base old new =
     (((state old.port).base ≡ base) × (new ≡ old))
     ⊎ (((state old.port).base < base) × (state new.port ≡ after_raise (state old.port) base))
-
--- a report of the root's port
-abbrev pub reported_root : Report → Charge
-reported_root r = record { port = turn.Root; report = r }
 
 module _ {P E : Type 0} {G : Ghosts P} (state : P → PortState) (faults : P → List PortFault)
     (group : GroupView E) where
@@ -87,20 +77,6 @@ module _ {P E : Type 0} {G : Ghosts P} (state : P → PortState) (faults : P →
     pub charged : new.reading.charged ≡ old.reading.charged
     pub noted : List (ℕ × PageCell × Shared P E G)
     pub pages : new.reading.pages ≡ noted ++ old.reading.pages
-
-  -- Whatever is known: with the report, the root is what the rule says.
-  abbrev pub ShowsRootReport : Report → Root P G → Seat P E G → Type 0
-  ShowsRootReport r root v =
-      (K : Shared P E G) → Sees (machine state faults group) v K
-      → IsRoot (values state faults group) group (charged (reported_root r) K) root
-
-  -- It was reported of the root's port, and the root was given back.
-  pub record IsReportedOfRoot (o : Start P E G) (r : Report) (old new : Seat P E G) : Type 0 where
-    pub known : Shared P E G
-    pub sees : Sees (machine state faults group) old known
-    pub is : new
-        ≡ giving (slot_of o turn.Root)
-        (after_notice (machine state faults group) (notice.Charge (reported_root r)) known old)
 
   -- It was refused before its front was read, or after.
   abbrev pub HasRefused : CheckpointRefusal → Seat P E G → Seat P E G → Type 0

@@ -1,118 +1,62 @@
 // One page is written home, by the port that has its block.
-ghost use Rattle.std.specs.Prelude.{◌≡◌, ◌<◌, ◌≤◌, [], length, IfErr, OnErr, OnOk, Some, None};
+ghost use Rattle.std.specs.Prelude.{◌≡◌, ◌<◌, ◌≤◌, [], length, IfErr, OnErr, OnOk, Some};
 ghost use Rattle.mq_blocks.specs.Geometry.{homes_of, queues_of, zone_of};
 ghost use Rattle.mq_journal.specs.Numbers.{values};
 ghost use Rattle.mq_desk_laws.specs.Rule.{shape_of};
 ghost use Rattle.mq_turns.specs.AtDesk.{AtDesk, view, start_of};
 ghost use Rattle.mq_checkpoint.specs.Pages.{HoldsOnlyPage, IsDue, at_home};
+ghost use Rattle.mq_checkpoint.specs.Ports.{IsHomeOf, WritesHome, answer_of, port_of};
 ghost use Rattle.mq_checkpoint.specs.Steps.{IsRefusedBy, MovesOn};
 
-use crate::root::report_root;
-use mq_blocks::{Block, BlockNo, Geometry, QueueNo};
-use mq_drive::{HomeStep, Port};
-use mq_journal::{Groups, JournalMachine, give_back_side, report_side, take_side};
+use crate::reporting::report_port;
+use mq_blocks::{Block, BlockNo, Geometry, Lba};
+use mq_drive::{HomeStep, Off, Port};
+use mq_journal::{Groups, JournalMachine};
 use mq_pages::PageCell;
 use mq_queue_side::Cause;
-use mq_turns::{Chair, Desk, Item, Report, Turn};
+use mq_turns::{Chair, Desk, Item, Turn};
 use std::sync::Wait;
 
-/// Takes the side of the queue in whose zone the block is, writes a copy of the page home, notes it, and
-/// gives the side back.
-pub(crate) fn write_by_side<R: Wait, P: Port + Drop, G: Groups>(
-    rt: &R,
-    desk: &Desk<JournalMachine<P, G>>,
-    chair: &mut Chair<JournalMachine<P, G>>,
-    geometry: Geometry,
-    queue: QueueNo,
-    block: BlockNo,
-    cell: &PageCell,
-    copy: Block,
-) -> Result<(), Cause>
-    requires at { AtDesk desk.now chair.old }
-    requires shape { geometry ≡ shape_of (values P.state P.faults G.group) G.group (start_of desk.now) }
-    requires sides { length (start_of desk.now).sides ≡ queues_of geometry }
-    requires home { block < homes_of geometry }
-    requires zone { zone_of geometry block ≡ Some queue }
-    requires page { HoldsOnlyPage P.state P.faults G.group (start_of desk.now) block cell.now
-        (view chair.old) }
-    requires due { IsDue cell.now (view chair.old) }
-    requires content { cell.now.content ≡ Some copy }
-    ensures at { AtDesk desk.now chair.new }
-    ensures wrote { OnOk result (HoldsOnlyPage P.state P.faults G.group (start_of desk.now) block
-        (at_home cell.now) (view chair.new)) }
-    ensures left { OnErr result (HoldsOnlyPage P.state P.faults G.group (start_of desk.now) block
-        cell.now (view chair.new)) }
-    ensures moves { OnOk result (MovesOn [] [] (view chair.old) (view chair.new)) }
-    ensures refused { IfErr result (λ c. IsRefusedBy P.state P.faults G.group [] c
-        (view chair.old) (view chair.new)) }
+// The turn of the port that has the block: the side of the queue in whose zone it is, or the root, which has
+// the metadata region.
+fn port_of(geometry: Geometry, block: BlockNo) -> Turn
+    requires { block < homes_of geometry }
+    ensures { result ≡ port_of (zone_of geometry block) }
 {
-    let mut side = take_side(rt, desk, chair, queue);
-    match side.write_home(geometry.home(block), copy) {
-        Ok(HomeStep::Done) => {
-            desk.note_home(chair, block, cell.version);
-            give_back_side(desk, chair, side);
-            Ok(())
-        }
-        Ok(HomeStep::Error { status }) => {
-            report_side(desk, chair, side, Report::FailedHome { block, status });
-            Err(Cause::FailedHome { block, status })
-        }
-        Err(_) => {
-            report_side(desk, chair, side, Report::Off);
-            Err(Cause::Off)
-        }
+    match geometry.zone_of(block) {
+        Some(queue) => Turn::Side(queue),
+        None => Turn::Root,
     }
 }
 
-/// Takes the root, which has the blocks of the metadata region, writes a copy of the page home, notes it,
-/// and gives the root back.
-pub(crate) fn write_by_root<R: Wait, P: Port + Drop, G: Groups>(
-    rt: &R,
-    desk: &Desk<JournalMachine<P, G>>,
-    chair: &mut Chair<JournalMachine<P, G>>,
-    geometry: Geometry,
-    block: BlockNo,
-    cell: &PageCell,
+// Writes a home block by the port in hand.
+fn write_by<P: Port + Drop, G: Groups>(
+    port: &mut Item<JournalMachine<P, G>>,
+    lba: Lba,
     copy: Block,
-) -> Result<(), Cause>
-    requires at { AtDesk desk.now chair.old }
-    requires shape { geometry ≡ shape_of (values P.state P.faults G.group) G.group (start_of desk.now) }
-    requires home { block < homes_of geometry }
-    requires zone { zone_of geometry block ≡ None }
-    requires page { HoldsOnlyPage P.state P.faults G.group (start_of desk.now) block cell.now
-        (view chair.old) }
-    requires due { IsDue cell.now (view chair.old) }
-    requires content { cell.now.content ≡ Some copy }
-    ensures at { AtDesk desk.now chair.new }
-    ensures wrote { OnOk result (HoldsOnlyPage P.state P.faults G.group (start_of desk.now) block
-        (at_home cell.now) (view chair.new)) }
-    ensures left { OnErr result (HoldsOnlyPage P.state P.faults G.group (start_of desk.now) block
-        cell.now (view chair.new)) }
-    ensures moves { OnOk result (MovesOn [] [] (view chair.old) (view chair.new)) }
-    ensures refused { IfErr result (λ c. IsRefusedBy P.state P.faults G.group [] c
-        (view chair.old) (view chair.new)) }
+) -> Result<HomeStep, Off>
+    requires { IsHomeOf P.state port.old lba }
+    ensures { WritesHome P.state P.faults lba copy result port.old port.new }
 {
-    let Item::Root(mut root) = desk.take(rt, chair, Turn::Root) else {
-        unreachable!()
-    };
-    match root.write_home(geometry.home(block), copy) {
-        Ok(HomeStep::Done) => {
-            desk.note_home(chair, block, cell.version);
-            desk.give_back(chair, Turn::Root, Item::Root(root));
-            Ok(())
-        }
-        Ok(HomeStep::Error { status }) => {
-            report_root(desk, chair, root, Report::FailedHome { block, status });
-            Err(Cause::FailedHome { block, status })
-        }
-        Err(_) => {
-            report_root(desk, chair, root, Report::Off);
-            Err(Cause::Off)
-        }
+    match port {
+        Item::Side(side) => side.write_home(lba, copy),
+        Item::Root(root) => root.write_home(lba, copy),
+        Item::Page(_) => unreachable!(),
     }
 }
 
-/// Writes a copy of the page home, by the port that has its block.
+// What a home write of the block came to.
+fn answer(block: BlockNo, step: Result<HomeStep, Off>) -> Result<(), Cause>
+    ensures { result ≡ answer_of block step }
+{
+    match step {
+        Ok(HomeStep::Done) => Ok(()),
+        Ok(HomeStep::Error { status }) => Err(Cause::FailedHome { block, status }),
+        Err(_) => Err(Cause::Off),
+    }
+}
+
+/// Takes the port that has the block, writes a copy of the page home, notes it, and gives the port back.
 pub(crate) fn write_home<R: Wait, P: Port + Drop, G: Groups>(
     rt: &R,
     desk: &Desk<JournalMachine<P, G>>,
@@ -139,8 +83,18 @@ pub(crate) fn write_home<R: Wait, P: Port + Drop, G: Groups>(
     ensures refused { IfErr result (λ c. IsRefusedBy P.state P.faults G.group [] c
         (view chair.old) (view chair.new)) }
 {
-    match geometry.zone_of(block) {
-        Some(queue) => write_by_side(rt, desk, chair, geometry, queue, block, cell, copy),
-        None => write_by_root(rt, desk, chair, geometry, block, cell, copy),
+    let turn = &port_of(geometry, block);
+    let mut port = desk.take(rt, chair, *turn);
+    let step = write_by(&mut port, geometry.home(block), copy);
+    match answer(block, step) {
+        Ok(()) => {
+            desk.note_home(chair, block, cell.version);
+            desk.give_back(chair, *turn, port);
+            Ok(())
+        }
+        Err(cause) => {
+            report_port(desk, chair, turn, port, &cause);
+            Err(cause)
+        }
     }
 }

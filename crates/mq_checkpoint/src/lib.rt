@@ -6,6 +6,7 @@ mod homes;
 mod pages;
 mod raising;
 mod refusal;
+mod reporting;
 mod root;
 mod sweeping;
 

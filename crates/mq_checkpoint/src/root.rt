@@ -1,46 +1,21 @@
 // What a checkpoint does with the root.
-ghost use Rattle.std.specs.Prelude.{◌≡◌, ◌<◌, ◌≤◌, [], length, IfErr, IfOk, OnOk};
+ghost use Rattle.std.specs.Prelude.{◌≡◌, ◌<◌, ◌≤◌, [], IfErr, IfOk, OnOk};
 ghost use Rattle.mq_base_laws.specs.Bases.{BaseOk};
 ghost use Rattle.mq_drive.specs.Steps.{OffCause};
 ghost use Rattle.mq_journal.specs.Numbers.{Shared, machine, values};
-ghost use Rattle.mq_desk_laws.specs.Rule.{IsOfRoot, core_of};
+ghost use Rattle.mq_desk_laws.specs.Rule.{core_of};
 ghost use Rattle.mq_turns.specs.AtDesk.{AtDesk, view, start_of};
-ghost use Rattle.mq_turns.specs.Desk.{Sees, slot_of};
-ghost use Rattle.mq_turns.specs.Lists.{times};
-ghost use Rattle.mq_turns.specs.declared.turn.Turn.TheVariants as turn;
-ghost use Rattle.mq_checkpoint.specs.Raised.{HasRaised, IsReportedOfRoot, IsStored, KeepsStanding, ShowsRootReport};
+ghost use Rattle.mq_turns.specs.Desk.{Sees};
+ghost use Rattle.mq_checkpoint.specs.Raised.{HasRaised, IsStored, KeepsStanding};
 ghost use Rattle.mq_checkpoint.specs.Steps.{IsRefusedBy};
 
+use crate::reporting::report_port;
 use mq_blocks::TxNo;
 use mq_drive::{Off, Port};
 use mq_journal::{Groups, JournalMachine};
 use mq_queue_side::{Cause, Root};
-use mq_turns::{Chair, Charge, Desk, Item, Report, Turn};
+use mq_turns::{Chair, Desk, Item, Turn};
 use std::sync::Wait;
-
-/// Enters a refusal in the account of the root's port, and gives the root back. With the report, the root
-/// must satisfy the rule of the desk, whatever is known by now.
-pub(crate) fn report_root<P: Port + Drop, G: Groups>(
-    desk: &Desk<JournalMachine<P, G>>,
-    chair: &mut Chair<JournalMachine<P, G>>,
-    root: Root<P>,
-    report: Report,
-)
-    requires at { AtDesk desk.now chair.old }
-    requires holds { 0 < times (slot_of (start_of desk.now) turn.Root) (view chair.old).held }
-    requires of_root { IsOfRoot report }
-    requires shows { ShowsRootReport P.state P.faults G.group report root (view chair.old) }
-    ensures at { AtDesk desk.now chair.new }
-    ensures reported { IsReportedOfRoot P.state P.faults G.group (start_of desk.now) report
-        (view chair.old) (view chair.new) }
-{
-    let charge = Charge {
-        port: Turn::Root,
-        report,
-    };
-    desk.charge(chair, &charge);
-    desk.give_back(chair, Turn::Root, Item::Root(root));
-}
 
 // Stores the base and flushes it, where the root's flushed base is below it. A greater one that was stored
 // before, and not flushed, is stored again.
@@ -88,7 +63,7 @@ pub(crate) fn raise_to<R: Wait, P: Port + Drop, G: Groups>(
             Ok(raised)
         }
         Err(_) => {
-            report_root(desk, chair, root, Report::Off);
+            report_port(desk, chair, &Turn::Root, Item::Root(root), &Cause::Off);
             Err(Cause::Off)
         }
     }

@@ -42,6 +42,7 @@ pub fn name_of_corrupt(cause: CorruptCause) -> &'static str
         CorruptCause::Pointer => "Pointer",
         CorruptCause::Unmarked => "Unmarked",
         CorruptCause::Shared => "Shared",
+        CorruptCause::Count => "Count",
         CorruptCause::Twin => "Twin",
         CorruptCause::Unreached => "Unreached",
         CorruptCause::Kind => "Kind",
@@ -63,5 +64,6 @@ pub fn name_of_fault(fault: Fault) -> &'static str
         Fault::Subtree => "Subtree",
         Fault::NoSpace => "NoSpace",
         Fault::NoInodes => "NoInodes",
+        Fault::Links => "Links",
     }
 }

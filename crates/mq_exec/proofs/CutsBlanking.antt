@@ -1,4 +1,5 @@
 -- A file that is cut has zeros written behind its new end first, up to the end of that block.
+use Rattle.mq_tree.specs.Links.{HasLinks}
 use Rattle.std.proofs.Common.{get_or, ◌≡◌, ◌≢◌, ℕ, ◌+◌, ◌-◌, ◌*◌, ◌/◌, ◌%◌, ◌<◌, ◌≤◌, inl, inr, List, [], ◌∷◌, ◌++◌, length, drop, replicate, refl, sym, ap, subst, ◌∙◌, arith, length-append, length-set}
 use Rattle.std.specs.Prelude.{Option, Some, is_some, min, nat_lt, slice_get}
 use Rattle.std.proofs.lemmas.Bool.{cases_lt, true≢false}
@@ -30,7 +31,7 @@ use Rattle.mq_tree.proofs.KeptBytes.{cut-at}
 use Rattle.mq_tree.specs.Laid.{ShowsPart, inode_of}
 use Rattle.mq_tree.specs.Requests.{cut_to, spliced, with_body}
 use Rattle.mq_tree.specs.Sound.{blocks_for}
-use Rattle.mq_tree.specs.Volume.{File, Node, Part, Volume, body, node}
+use Rattle.mq_tree.specs.Volume.{Body, File, Node, Part, Volume, body, node}
 use Rattle.mq_tree.proofs.RequestsNodes.{cut-length, zeros-at as none-at}
 use Rattle.mq_tree.proofs.FreeUses.{node-here}
 
@@ -147,7 +148,7 @@ last-step g v i size b bytes old new h =
 
 last-becomes : (g : Geometry) (v : Volume) (i size b : ℕ) (bytes : List ℕ) (old new : Working) → IsLastPut g v i size b bytes old new → Becomes g v (with_body v i (File (blank_to size bytes))) old new
 last-becomes g v i size b bytes old new h =
-    becomes-stepped g v w old new (b ∷ []) h.carries (with_body-uses g v i (File now) h.carries.uses h.low) (length-set v i (rebodied (node v i) (File now))) (last-step g v i size b bytes old new h)
+    becomes-stepped g v w old new (b ∷ []) h.carries (with_body-uses g v i (File now) h.carries.uses h.low (subst (λ (x : Body). HasLinks x (node v i).links) h.is (h.carries.uses.links i))) (length-set v i (rebodied (node v i) (File now))) (last-step g v i size b bytes old new h)
     (λ x y none. none-some _ (sym none ∙ ap (pages_of old) (among-one b x y) ∙ h.put.text.was))
     (λ x high n. h.put.kind.others x (λ e. true≢false (sym (ap (λ (c : ℕ). is_among c (b ∷ [])) e ∙ among-here b []) ∙ n)))
     (λ x kind high y e. (λ d. subst (λ c. IsOfFile w c) (sym (among-one b x y)) file, λ f. same_Some kind Data (sym e ∙ ap (kinds_of new) (among-one b x y) ∙ h.put.kind.here)))
@@ -177,7 +178,7 @@ blank-put g v i size b bytes old new h =
       blank = to;
       blocks = ap (λ (n : Node). n.blocks) here;
       indirect = ap (λ (n : Node). n.indirect) here;
-      inode = ap inode_of here ∙ sym (inode-same (node v i) (File bytes) (File now) h.is refl refl (sym to.same_size));
+      inode = ap inode_of here ∙ sym (inode-same (node v i) (File bytes) (File now) h.is refl (sym to.same_size));
       cuts = λ n xs. cut-body v i n (File now) xs h.low;
     }
 

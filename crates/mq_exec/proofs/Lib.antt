@@ -18,10 +18,13 @@ pub mod OverwritesRewriting
 pub mod PlansComing
 pub mod PlansCreationLooks
 pub mod PlansCreations
+pub mod PlansLinked
+pub mod PlansLinking
 pub mod PlansRemoveCarried
 pub mod PlansRemoving
 pub mod PlansRenamed
 pub mod PlansRenaming
+pub mod PlansShed
 pub mod PlansTargets
 pub mod PlansTruncateLooks
 pub mod PlansUnseen

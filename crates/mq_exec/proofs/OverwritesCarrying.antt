@@ -1,4 +1,5 @@
 -- A file's rewriting, page by page, for one of the volumes.
+use Rattle.mq_tree.specs.Links.{HasLinks}
 use Rattle.std.proofs.Common.{get_or, ◌≡◌, ℕ, ◌+◌, ◌-◌, ◌/◌, ◌<◌, ◌≤◌, inl, inr, List, length, sym, ap, subst, ◌∙◌, arith}
 use Rattle.std.specs.Prelude.{Option, Some, None, slice_get}
 use Rattle.std.proofs.lemmas.Bool.{true≢false}
@@ -28,7 +29,7 @@ use Rattle.mq_layout.specs.declared.inode.Inode.{Inode}
 use Rattle.mq_tree.specs.Laid.{inode_of, size_of}
 use Rattle.mq_tree.specs.Requests.{Verdict, resized, with_body}
 use Rattle.mq_tree.specs.Sound.{blocks_for}
-use Rattle.mq_tree.specs.Volume.{File, Node, Part, Volume, is_used, node}
+use Rattle.mq_tree.specs.Volume.{Body, File, Node, Part, Volume, is_used, node}
 use Rattle.mq_tree.proofs.FreeUses.{node-here}
 use Rattle.mq_tree.proofs.LaidUses.{use-taken}
 
@@ -131,7 +132,7 @@ mid-form g q v m bytes now old mid after r e few =
     let w = with_body r.u i (File now) in
     let here = node-here r.u i (rebodied (node r.u i) (File now)) low in
     let size : size_of (File now) (length (node r.u i).blocks) ≤ file_limit = (let f = few in omega arith) in
-    let form = inode-form g w i (with_body-uses g r.u i (File now) r.becomes.carries.uses low) (ap (λ (n : Node). is_used n.body) here) (subst (λ (n : Node). size_of n.body (length n.blocks) ≤ file_limit) (sym here) size) in
+    let form = inode-form g w i (with_body-uses g r.u i (File now) r.becomes.carries.uses low (subst (λ (x : Body). HasLinks x (node r.u i).links) r.is (r.becomes.carries.uses.links i))) (ap (λ (n : Node). is_used n.body) here) (subst (λ (n : Node). size_of n.body (length n.blocks) ≤ file_limit) (sym here) size) in
     subst (λ (x : Inode). IsInode x) (ap inode_of here ∙ sym (mid-inode g q v m bytes now old mid after r e)) form
 
 -- ---- all of it

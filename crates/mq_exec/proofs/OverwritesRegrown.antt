@@ -17,7 +17,7 @@ use Rattle.mq_inodes.proofs.ChangesVolumes.{resized-grown}
 use Rattle.mq_layout.specs.Places.{inodes_of}
 use Rattle.mq_layout.specs.declared.inode.Inode.{Inode}
 use Rattle.mq_tree.specs.Free.{free_blocks, grown, needs}
-use Rattle.mq_tree.specs.Laid.{inode_of, kind_of, links_of, or_zero, padded}
+use Rattle.mq_tree.specs.Laid.{inode_of, kind_of, or_zero, padded}
 use Rattle.mq_tree.specs.Requests.{Verdict, resized, with_body}
 use Rattle.mq_tree.specs.Sound.{blocks_for}
 use Rattle.mq_tree.specs.Volume.{Body, File, Node, Use, Part, Pointers, Volume, body, node}
@@ -82,8 +82,8 @@ regrown g q v verdict rewritten m old mid after c plan h = record {
 pub sized-inode : (n : Node) (o : Inode) (bytes now : List ℕ) (size : ℕ) → o ≡ inode_of n → n.body ≡ File bytes → size ≡ length now → record { kind = o.kind; links = o.links; size = size; direct = o.direct; indirect = o.indirect } ≡ inode_of (rebodied n (File now))
 sized-inode n o bytes now size e is s =
     ap (λ (x : Inode). record { kind = x.kind; links = x.links; size = size; direct = x.direct; indirect = x.indirect }) e
-    ∙ ap (λ (b : Body). record { kind = kind_of b; links = links_of b; size = size; direct = padded 12 n.blocks; indirect = or_zero n.indirect }) is
-    ∙ ap (λ (k : ℕ). record { kind = 1; links = 1; size = k; direct = padded 12 n.blocks; indirect = or_zero n.indirect }) s
+    ∙ ap (λ (b : Body). record { kind = kind_of b; links = n.links; size = size; direct = padded 12 n.blocks; indirect = or_zero n.indirect }) is
+    ∙ ap (λ (k : ℕ). record { kind = 1; links = n.links; size = k; direct = padded 12 n.blocks; indirect = or_zero n.indirect }) s
 
 part-place : (i j k : ℕ) → Part i j ≡ Part i k → j ≡ k
 part-place i j k e = ap place_in e

@@ -1,4 +1,5 @@
 -- A file that gets other bytes over its blocks: those that change, and its size.
+use Rattle.mq_tree.specs.Links.{HasLinks}
 use Rattle.std.proofs.Common.{get_or, ◌≡◌, ◌≢◌, ℕ, ◌+◌, ◌-◌, ◌*◌, ◌/◌, ◌<◌, ◌≤◌, ◌⊎◌, inl, inr, List, ◌∷◌, length, drop, Bool, true, false, cond, sym, ap, subst, ◌∙◌, arith}
 use Rattle.std.specs.Prelude.{Option, Some, None, ◌↔◌, max, min, slice_get}
 use Rattle.std.proofs.lemmas.Bool.{cases_eq, cases_lt, eq-eqb, ne_eqb, true≢false}
@@ -27,7 +28,7 @@ use Rattle.mq_pages.specs.declared.page.Kind.{Kind}
 use Rattle.mq_pages.specs.declared.page.Kind.TheVariants.{Data}
 use Rattle.mq_tree.specs.Laid.{ShowsPart, inode_of, kind_of, size_of}
 use Rattle.mq_tree.specs.Requests.{with_body}
-use Rattle.mq_tree.specs.Volume.{File, Node, Part, Volume, body, is_used, node}
+use Rattle.mq_tree.specs.Volume.{Body, File, Node, Part, Volume, body, is_used, node}
 use Rattle.mq_tree.proofs.FreeUses.{node-here}
 use Rattle.std.proofs.lemmas.List.{length-set}
 
@@ -133,7 +134,7 @@ pub record IsRewritten (g : Geometry) (u : Volume) (i at : ℕ) (text bytes now 
 
 pub rewrite-becomes : (g : Geometry) (u : Volume) (i at : ℕ) (text bytes now : List ℕ) (mid wrote new : Working) → IsRewritten g u i at text bytes now mid wrote new → Becomes g u (with_body u i (File now)) mid new
 rewrite-becomes g u i at text bytes now mid wrote new h =
-    becomes-stepped g u (with_body u i (File now)) mid new blocks h.carries (with_body-uses g u i (File now) h.carries.uses low) (length-set u i (rebodied (node u i) (File now))) step known rest put
+    becomes-stepped g u (with_body u i (File now)) mid new blocks h.carries (with_body-uses g u i (File now) h.carries.uses low (subst (λ (x : Body). HasLinks x (node u i).links) h.is (h.carries.uses.links i))) (length-set u i (rebodied (node u i) (File now))) step known rest put
   where
     first : ℕ
     first = at / 4096

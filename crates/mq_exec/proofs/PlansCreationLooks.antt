@@ -1,4 +1,5 @@
 -- What making a file or a directory comes to, and at what it looks.
+use Rattle.mq_inodes.proofs.ChangesUses.{used-links}
 use Rattle.std.proofs.Common.{◌≡◌, ◌≢◌, ℕ, ◌*◌, ◌<◌, ◌≤◌, inl, inr, List, [], ◌∷◌, ◌++◌, length, Bool, true, false, cond, refl, sym, ap, subst, ◌∙◌, arith, length-set}
 use Rattle.std.specs.Prelude.{Option, Some, None, nat_le}
 use Rattle.std.specs.List.{Contains, list_all}
@@ -168,7 +169,7 @@ make-wanted g q v t path o i picks b sound r e m c =
     elim (Contains-push_cases picks (inode_block g i) b c) [
       | inl among ↦
           let w = with_inode v i y in
-          let uses : AreUses g w = bare-uses g v i (bare y) (sound-uses g v sound) low refl refl in
+          let uses : AreUses g w = bare-uses g v i (bare y) (sound-uses g v sound) low refl refl (used-links y (empty-used t)) in
           let inside : d < length w = (let n = length-set v i (bare y) in let c = sound.count in let l = m.opened.low in omega arith) in
           let made : step g q v (make_request t path) ≡ record { reply = Done; next = made_volume g q v y path d i } = making-step g q v t path r.good ∙ make-enough g q v y path d i r e enough in
           let free = All-contains (IsFree g v) picks b (picks-all_free g q v _ picks m.queue m.picked) among in

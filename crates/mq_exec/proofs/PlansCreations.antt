@@ -48,7 +48,7 @@ made-link g q v i y o entry picks sound low free h =
     link-same g q v w o entry picks (node-other v i o.number (bare y) (free-not-dir v o.number i h.slots h.is free)) (λ x. sym (taken-same v w i x others (has x))) h
   where
     lacks : (n : Node) (x : ℕ) → n.blocks ≡ [] → n.indirect ≡ None → has_block n x ≡ false
-    lacks n x bs ind = ap (λ (xs : List ℕ). has_block (record { body = n.body; blocks = xs; indirect = n.indirect }) x) bs ∙ ap (λ (p : Option ℕ). has_block (record { body = n.body; blocks = []; indirect = p }) x) ind
+    lacks n x bs ind = ap (λ (xs : List ℕ). has_block (record { body = n.body; blocks = xs; indirect = n.indirect; links = n.links }) x) bs ∙ ap (λ (p : Option ℕ). has_block (record { body = n.body; blocks = []; indirect = p; links = n.links }) x) ind
 
 -- ---- pages
 

@@ -1,7 +1,7 @@
 -- What removing a file or a directory comes to.
-use Rattle.std.proofs.Common.{get_or, ◌≡◌, ◌≢◌, ℕ, ◌*◌, ◌<◌, Bool, true, cond, List, [], ◌∷◌, length, refl, sym, ap, subst, ◌∙◌, arith}
-use Rattle.std.specs.Prelude.{Option, Some, None, nat_eq}
-use Rattle.std.proofs.lemmas.Bool.{eq-eqb}
+use Rattle.std.proofs.Common.{get_or, ◌≡◌, ◌≢◌, ℕ, ◌-◌, ◌*◌, ◌^◌, ◌<◌, ◌≤◌, Bool, true, false, cond, List, [], ◌∷◌, length, refl, sym, ap, subst, ◌∙◌, arith}
+use Rattle.std.specs.Prelude.{Option, Some, None, nat_eq, nat_le}
+use Rattle.std.proofs.lemmas.Bool.{eq-eqb, le-leb, lt-leb}
 use Rattle.mq_blocks.specs.declared.geometry.Geometry.{Geometry}
 use Rattle.mq_layout.specs.Places.{inodes_of}
 use Rattle.mq_layout.specs.Slots.{Entry}
@@ -10,11 +10,15 @@ use Rattle.mq_exec.specs.declared.file.Found.{Found}
 use Rattle.mq_exec.specs.declared.remove.Removal.{Removal}
 use Rattle.mq_exec.proofs.PlansComing.{carried-enough}
 use Rattle.mq_exec.proofs.PlansTargets.{IsUnder}
-use Rattle.mq_inodes.specs.Opened.{IsOpened, MayUnlink}
+use Rattle.mq_inodes.specs.Opened.{IsOpened, MayCount, MayUnlink}
+use Rattle.mq_tree.specs.Links.{HasLinks}
 use Rattle.mq_inodes.specs.Walks.{IsDirectory, last_of}
-use Rattle.mq_tree.specs.Requests.{In, Lost, Makes, Root, RequestTarget, Verdict, act, carried_out, count_names, freed, is_named, refused, rmdir, rmdir_in, step, target, unlink, unlink_in, unlinked}
+use Rattle.mq_tree.specs.Requests.{In, Lost, Makes, Root, RequestTarget, Verdict, act, carried_out, cleared, count_names, freed, is_named, refused, released, rmdir, rmdir_in, step, target, unlink, unlink_in, unlinked, with_links}
 use Rattle.mq_tree.specs.Sound.{IsBody, IsSound}
-use Rattle.mq_tree.specs.Volume.{Body, Free, File, Dir, Path, Volume, body, find, node, slot, slots_of, way}
+use Rattle.mq_tree.proofs.FreeUses.{node-other}
+use Rattle.mq_inodes.proofs.ChangesBodies.{rebodied}
+use Rattle.mq_layout.specs.declared.inode.Inode.{Inode}
+use Rattle.mq_tree.specs.Volume.{Body, Free, File, Dir, Node, Path, Volume, body, find, node, slot, slots_of, way}
 use Rattle.mq_tree.specs.declared.request.Fault.{Fault}
 use Rattle.mq_tree.specs.declared.request.Fault.TheVariants.{BadName, NotDir, NotEmpty}
 use Rattle.mq_tree.specs.declared.request.Reply.TheVariants.{Ok as Ready}
@@ -22,7 +26,7 @@ use Rattle.mq_tree.specs.declared.request.Request.{Request}
 
 -- ---- a verdict that takes no block is carried out
 
-carried-makes : (g : Geometry) (v : Volume) (verdict : Verdict) (w : Volume) → verdict ≡ Makes 0 w → IsCarried g v verdict w
+pub carried-makes : (g : Geometry) (v : Volume) (verdict : Verdict) (w : Volume) → verdict ≡ Makes 0 w → IsCarried g v verdict w
 carried-makes g v verdict w e = ap (λ (x : Verdict). carried_out g v x) e ∙ carried-enough g v 0 w (omega arith)
 
 pub step-made : (g : Geometry) (q : ℕ) (v : Volume) (r : Request) (w : Volume) → is_named r ≡ true → act g q v r ≡ Makes 0 w → step g q v r ≡ record { reply = Ready; next = w }
@@ -32,7 +36,7 @@ step-made g q v r w good e = ap (λ (t : Bool). carried_out g v (cond t (act g q
 -- ---- files
 
 abbrev file_gone : Volume → ℕ → List ℕ → ℕ → List ℕ → Verdict
-file_gone v d name i bytes = Makes 0 (freed (unlinked v d name) i)
+file_gone v d name i bytes = Makes 0 (released (unlinked v d name) i)
 
 unlink_in-on : (v : Volume) (d : ℕ) (name : List ℕ) (i : ℕ) (x : Body) → unlink_in v d name i x ≡ on_body (file_gone v) d name i x
 unlink_in-on v d name i Free = refl
@@ -48,11 +52,32 @@ unlink-on v (In d name (Some i)) = unlink_in-on v d name i (body v i)
 pub unlink-refused : (g : Geometry) (v : Volume) (t : RequestTarget) (fault : Fault) → ((act : ℕ → List ℕ → ℕ → List ℕ → Verdict) → on_file v act t ≡ refused fault) → IsRefused g v (unlink v t) fault
 unlink-refused g v t fault h = ap (λ (x : Verdict). carried_out g v x) (unlink-on v t ∙ h (file_gone v))
 
-pub unlink-makes : (v : Volume) (path : Path) (f : Found) → IsFound v path f → unlink v (target v (way path)) ≡ Makes 0 (freed (unlinked v f.directory (last_of (way path))) f.number)
+pub unlink-makes : (v : Volume) (path : Path) (f : Found) → IsFound v path f → unlink v (target v (way path)) ≡ Makes 0 (released (unlinked v f.directory (last_of (way path))) f.number)
 unlink-makes v path f h = ap (λ (t : RequestTarget). unlink v t) h.target_is ∙ ap (λ (x : Body). unlink_in v f.directory (last_of (way path)) f.number x) h.file.is
 
 pub file-other : (v : Volume) (d i : ℕ) (bytes : List ℕ) → IsDirectory v d → body v i ≡ File bytes → i ≢ d
 file-other v d i bytes dir is same = let e : File bytes ≡ Dir dir.0 = sym is ∙ ap (λ (x : ℕ). body v x) same ∙ dir.1 in absurd (cc)
+
+-- another inode has as many links as before
+pub unlinked-node : (v : Volume) (d i : ℕ) (name : List ℕ) → i ≢ d → node (unlinked v d name) i ≡ node v i
+unlinked-node v d i name other = node-other v d i (rebodied (node v d) (Dir (cleared name (slots_of (body v d))))) other
+
+released-when : (u : Volume) (i : ℕ) (t : Bool) → nat_le (node u i).links 1 ≡ t → released u i ≡ cond t (freed u i) (with_links u i ((node u i).links - 1))
+released-when u i t e = ap (λ (b : Bool). cond b (freed u i) (with_links u i ((node u i).links - 1))) e
+
+-- the last name goes with the file
+pub last-makes : (v : Volume) (path : Path) (f : Found) → IsFound v path f → f.number ≢ f.directory → f.inode.links ≤ 1 → unlink v (target v (way path)) ≡ Makes 0 (freed (unlinked v f.directory (last_of (way path))) f.number)
+last-makes v path f h other last =
+    let u = unlinked v f.directory (last_of (way path)) in
+    let same : (node u f.number).links ≡ f.inode.links = ap (λ (n : Node). n.links) (unlinked-node v f.directory f.number (last_of (way path)) other) ∙ sym (ap (λ (n : Inode). n.links) h.file.says) in
+    unlink-makes v path f h ∙ ap (λ (x : Volume). Makes 0 x) (released-when u f.number true (le-leb (node u f.number).links 1 (omega arith)))
+
+-- and any other without it
+pub shed-makes : (v : Volume) (path : Path) (f : Found) → IsFound v path f → f.number ≢ f.directory → 1 < f.inode.links → unlink v (target v (way path)) ≡ Makes 0 (with_links (unlinked v f.directory (last_of (way path))) f.number (f.inode.links - 1))
+shed-makes v path f h other more =
+    let u = unlinked v f.directory (last_of (way path)) in
+    let same : (node u f.number).links ≡ f.inode.links = ap (λ (n : Node). n.links) (unlinked-node v f.directory f.number (last_of (way path)) other) ∙ sym (ap (λ (n : Inode). n.links) h.file.says) in
+    unlink-makes v path f h ∙ ap (λ (x : Volume). Makes 0 x) (released-when u f.number false (lt-leb (node u f.number).links 1 (omega arith))) ∙ ap (λ (k : ℕ). Makes 0 (with_links u f.number (k - 1))) same
 
 -- ---- directories
 
@@ -77,6 +102,26 @@ bare-other v path d i slots u is none same =
     absurd (cc)
 
 -- ---- the plan
+
+-- the file has a link less, and there are others
+pub may-shed : (g : Geometry) (v : Volume) (path : Path) (f : Found) → IsSound g v → IsFound v path f → f.number < inodes_of g → 1 < f.inode.links → MayCount g v f.number (f.inode.links - 1) f.inode
+may-shed g v path f sound h low more = record {
+  low = low;
+  says = h.file.says;
+  bytes = h.file.bytes;
+  is = h.file.is;
+  size = fine.0;
+  few = (let e = same in omega arith, let e = same in let l = few in omega arith);
+}
+  where
+    fine : IsBody (File h.file.bytes) (length (node v f.number).blocks)
+    fine = subst (λ x. IsBody x (length (node v f.number).blocks)) h.file.is (sound.nodes f.number).body
+
+    same : f.inode.links ≡ (node v f.number).links
+    same = ap (λ (n : Inode). n.links) h.file.says
+
+    few : (node v f.number).links < 2 ^ 16
+    few = (subst (λ (x : Body). HasLinks x (node v f.number).links) h.file.is (sound.nodes f.number).links).1
 
 pub may-unlink : (g : Geometry) (v : Volume) (d : ℕ) (blocks : List ℕ) → IsSound g v → IsDirectory v d → d < inodes_of g → blocks ≡ (node v d).blocks → MayUnlink g v d blocks
 may-unlink g v d blocks sound dir low same = record {

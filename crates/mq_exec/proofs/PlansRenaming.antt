@@ -1,4 +1,5 @@
 -- What moving a file or a directory comes to, and at what it looks.
+use Rattle.mq_tree.specs.Links.{HasLinks}
 use Rattle.std.proofs.Common.{◌≡◌, ◌≢◌, ℕ, ◌*◌, ◌<◌, ◌≤◌, inl, inr, List, length, Bool, true, false, cond, sym, ap, subst, ◌∙◌, arith, length-set}
 use Rattle.std.specs.Prelude.{Option, Some, None, is_some, nat_le, nat_lt}
 use Rattle.std.specs.List.{All, Contains, list_all}
@@ -292,7 +293,7 @@ pub rename-taken : (g : Geometry) (q : ℕ) (pages : Pages) (v : Volume) (from t
 rename-taken g q pages v from to i need b s o picks low m e n picked among =
     let u = gone v from s.number in
     let inside = source-low g pages v from to i s o m in
-    let uses : AreUses g u = with_body-uses g v s.number _ (sound-uses g v m.sound) inside in
+    let uses : AreUses g u = with_body-uses g v s.number _ (sound-uses g v m.sound) inside (subst (λ (x : Body). HasLinks x (node v s.number).links) m.move.under.dir.1 (m.sound.nodes s.number).links) in
     let within : o.number < length u = (let k = length-set v s.number (rebodied (node v s.number) (Dir (cleared (last_of (way from)) (slots_of (body v s.number))))) in let c = m.sound.count in let l = m.opened.low in omega arith) in
     let made = rename-step g q v from to s.number i o.number m.move ∙ rename-enough g q pages v from to i need s o m e n (picked-enough g q v need picks low picked) in
     let free = All-contains (IsFree g v) picks b (picks-all_free g q v need picks low picked) among in

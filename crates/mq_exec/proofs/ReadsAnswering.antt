@@ -15,7 +15,7 @@ use Rattle.mq_tree.specs.declared.request.Fault.{Fault}
 use Rattle.mq_tree.specs.declared.request.Reply.{Reply}
 use Rattle.mq_tree.specs.declared.request.Reply.TheVariants.{Refused}
 use Rattle.mq_tree.specs.declared.request.Request.{Request}
-use Rattle.mq_tree.specs.declared.request.Request.TheVariants.{Mkdir, Create, Write, Truncate, Unlink, Rmdir, Rename, Read, List as ListOf, Stat}
+use Rattle.mq_tree.specs.declared.request.Request.TheVariants.{Mkdir, Create, Write, Truncate, Unlink, Rmdir, Rename, Link, Read, List as ListOf, Stat}
 
 -- ---- what it answers
 
@@ -27,6 +27,7 @@ read-verdict g q v (Truncate p size) e = absurd (true≢false e)
 read-verdict g q v (Unlink p) e = absurd (true≢false e)
 read-verdict g q v (Rmdir p) e = absurd (true≢false e)
 read-verdict g q v (Rename p to) e = absurd (true≢false e)
+read-verdict g q v (Link p to) e = absurd (true≢false e)
 read-verdict g q v (Read p at count) e = refl
 read-verdict g q v (ListOf p) e = refl
 read-verdict g q v (Stat p) e = refl
@@ -60,6 +61,7 @@ names-look g v (Truncate p size) path b e at h q = absurd (true≢false e)
 names-look g v (Unlink p) path b e at h q = absurd (true≢false e)
 names-look g v (Rmdir p) path b e at h q = absurd (true≢false e)
 names-look g v (Rename p to) path b e at h q = absurd (true≢false e)
+names-look g v (Link p to) path b e at h q = absurd (true≢false e)
 names-look g v (Read p o count) path b e at h q = let k : NamesLeadPast g v p b = subst (λ (x : Path). NamesLeadPast g v x b) at h in record { named = k.names; looks = past-looks g q v p (Read p o count) b refl k.past }
 names-look g v (ListOf p) path b e at h q = let k : NamesLeadPast g v p b = subst (λ (x : Path). NamesLeadPast g v x b) at h in record { named = k.names; looks = past-looks g q v p (ListOf p) b refl k.past }
 names-look g v (Stat p) path b e at h q = let k : NamesLeadPast g v p b = subst (λ (x : Path). NamesLeadPast g v x b) at h in record { named = k.names; looks = past-looks g q v p (Stat p) b refl k.past }

@@ -23,7 +23,7 @@ use Rattle.mq_tree.specs.Volume.{Volume}
 use Rattle.mq_tree.specs.declared.request.Reply.{Reply}
 use Rattle.mq_tree.specs.declared.request.Fault.TheVariants.{BadName}
 use Rattle.mq_tree.specs.declared.request.Request.{Request}
-use Rattle.mq_tree.specs.declared.request.Request.TheVariants.{Mkdir, Create, Write, Truncate, Unlink, Rmdir, Rename, Read, List as ListOf, Stat}
+use Rattle.mq_tree.specs.declared.request.Request.TheVariants.{Mkdir, Create, Write, Truncate, Unlink, Rmdir, Rename, Link, Read, List as ListOf, Stat}
 use Rattle.mq_tree.proofs.KeptSteps.{step-sound}
 
 -- a request that reads leaves the pages
@@ -49,6 +49,7 @@ reads-bytes (Truncate p size) e = tt
 reads-bytes (Unlink p) e = tt
 reads-bytes (Rmdir p) e = tt
 reads-bytes (Rename p to) e = tt
+reads-bytes (Link p to) e = tt
 reads-bytes (Read p at count) e = tt
 reads-bytes (ListOf p) e = tt
 reads-bytes (Stat p) e = tt

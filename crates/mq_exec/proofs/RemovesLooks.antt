@@ -1,15 +1,17 @@
 -- At what removing a file or a directory looks.
-use Rattle.std.proofs.Common.{◌≡◌, ◌≢◌, ℕ, ◌*◌, ◌<◌, true, false, List, length, refl, sym, ap, subst, ◌∙◌, arith, inl, inr, length-set}
-use Rattle.std.specs.Prelude.{Some, slice_get}
+use Rattle.mq_tree.specs.Links.{HasLinks}
+use Rattle.std.proofs.Common.{◌≡◌, ◌≢◌, ℕ, ◌*◌, ◌<◌, ◌≤◌, Bool, true, false, List, length, sym, ap, subst, ◌∙◌, arith, inl, inr, length-set}
+use Rattle.std.specs.Prelude.{None, Some, slice_get, if◌then◌else◌}
 use Rattle.std.specs.List.{list_all}
-use Rattle.std.proofs.lemmas.Bool.{true≢false}
+use Rattle.std.proofs.lemmas.Bool.{le-leb, true≢false}
 use Rattle.std.proofs.lemmas.Option.{slice_get_within}
 use Rattle.mq_blocks.specs.declared.geometry.Geometry.{Geometry}
 use Rattle.mq_layout.specs.Names.{is_name}
 use Rattle.mq_exec.specs.Plans.{IsFound}
 use Rattle.mq_exec.specs.Removes.{LooksFreed}
 use Rattle.mq_exec.specs.declared.file.Found.{Found}
-use Rattle.mq_exec.proofs.PlansRemoving.{file-other, step-made, unlink-makes}
+use Rattle.mq_exec.proofs.PlansRemoving.{file-other, last-makes, step-made}
+use Rattle.mq_layout.specs.declared.inode.Inode.{Inode}
 use Rattle.mq_exec.proofs.PlansTargets.{IsUnder, found-under}
 use Rattle.mq_inodes.specs.Walks.{IsDirectory, last_of}
 use Rattle.mq_inodes.proofs.ChangesBodies.{rebodied}
@@ -52,7 +54,7 @@ gone-not_taken : (g : Geometry) (v : Volume) (d i : ℕ) (name : List ℕ) (c : 
 gone-not_taken g v d i name c h has =
     let now = Dir (cleared name (slots_of (body v d))) in
     let uses = sound-uses g v h.sound in
-    let fine : AreUses g (unlinked v d name) = with_body-uses g v d now uses (used-inside v d (ap (λ (x : Body). is_used x) h.dir.1)) in
+    let fine : AreUses g (unlinked v d name) = with_body-uses g v d now uses (used-inside v d (ap (λ (x : Body). is_used x) h.dir.1)) (subst (λ (x : Body). HasLinks x (node v d).links) h.dir.1 (uses.links d)) in
     gone-free g (unlinked v d name) (freed (unlinked v d name) i) i c fine (λ x away. node-other (unlinked v d name) i x free_node away)
     (ap (λ (n : Node). has_block n c) (node-other v d i (rebodied (node v d) now) h.other) ∙ has)
     (ap (λ (n : Node). has_block n c) (gone-here g v d i name h))
@@ -75,10 +77,13 @@ pub record IsFileGone (g : Geometry) (v : Volume) (path : Path) (d i : ℕ) (byt
   pub named : list_all is_name path ≡ true
   pub under : IsUnder v (way path) d i
   pub is : body v i ≡ File bytes
+  pub last : (node v i).links ≤ 1
   pub makes : unlink v (target v (way path)) ≡ Makes 0 (freed (unlinked v d (last_of (way path))) i)
 
-pub file-gone : (g : Geometry) (v : Volume) (path : Path) (f : Found) → IsSound g v → list_all is_name path ≡ true → (h : IsFound v path f) → IsFileGone g v path f.directory f.number h.file.bytes
-file-gone g v path f sound good h = record { sound = sound; named = good; under = found-under g v path f sound h; is = h.file.is; makes = unlink-makes v path f h }
+pub file-gone : (g : Geometry) (v : Volume) (path : Path) (f : Found) → IsSound g v → list_all is_name path ≡ true → (h : IsFound v path f) → f.inode.links ≤ 1 → IsFileGone g v path f.directory f.number h.file.bytes
+file-gone g v path f sound good h last =
+    let u = found-under g v path f sound h in
+    record { sound = sound; named = good; under = u; is = h.file.is; last = subst (λ (n : Inode). n.links ≤ 1) h.file.says last; makes = last-makes v path f h (file-other v f.directory f.number h.file.bytes u.dir h.file.is) last }
 
 file-does : (g : Geometry) (q : ℕ) (v : Volume) (path : Path) (d i : ℕ) (bytes : List ℕ) → IsFileGone g v path d i bytes → step g q v (Unlink path) ≡ record { reply = Ready; next = freed (unlinked v d (last_of (way path))) i }
 file-does g q v path d i bytes h = step-made g q v (Unlink path) _ h.named h.makes
@@ -87,7 +92,7 @@ file-done : (g : Geometry) (q : ℕ) (v : Volume) (path : Path) (d i : ℕ) (byt
 file-done g q v path d i bytes h = ap (λ (o : RequestOutcome). is_refused o.reply) (file-does g q v path d i bytes h)
 
 file-works : (g : Geometry) (v : Volume) (path : Path) (d i : ℕ) (bytes : List ℕ) → IsFileGone g v path d i bytes → WorksOn v (Unlink path) i bytes
-file-works g v path d i bytes h = record { path = path; names = refl; leads = h.under.leads; is = h.is }
+file-works g v path d i bytes h = record { path = path; names = ap (λ (t : Bool). if t then Some path else None) (le-leb (node v i).links 1 h.last); leads = h.under.leads; is = h.is }
 
 pub file-pointers : (g : Geometry) (q : ℕ) (v : Volume) (path : Path) (d i : ℕ) (bytes : List ℕ) (b : ℕ) → IsFileGone g v path d i bytes → (node v i).indirect ≡ Some b → LooksAt g q v (Unlink path) b
 file-pointers g q v path d i bytes b h e = at_pointers i bytes (file-works g v path d i bytes h) (file-done g q v path d i bytes h) e

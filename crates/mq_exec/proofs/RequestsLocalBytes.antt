@@ -11,7 +11,7 @@ use Rattle.mq_inodes.proofs.ChangesBodies.{inode-form, rebodied}
 use Rattle.mq_inodes.proofs.Changes.{kept-rewrites, kept-uses, used-kind}
 use Rattle.mq_inodes.proofs.ChangesInodes.{fits-inode}
 use Rattle.mq_inodes.proofs.ChangesSteps.{step-over, zone-put}
-use Rattle.mq_inodes.proofs.ChangesUses.{Rewrites}
+use Rattle.mq_inodes.proofs.ChangesUses.{Rewrites, links-at, links-kind}
 use Rattle.mq_layout.specs.Inodes.{IsInode}
 use Rattle.mq_layout.specs.Places.{file_limit, inode_block, inodes_of}
 use Rattle.mq_tree.proofs.KeptBytes.{cut-at}
@@ -58,7 +58,7 @@ body-step g v i y blocks old new uses low inside used kind few inode show fits r
     bd = ap (λ (n : Node). n.body) here
 
     fine : AreUses g w
-    fine = kept-uses g v w i uses o bs ind
+    fine = kept-uses g v w i uses o bs ind (links-at w i (rebodied (node v i) y) here (links-kind (body v i) y (node v i).links kind (uses.links i)))
 
     r : Rewrites g v w i blocks
     r = kept-rewrites g v w i blocks o bs ind (kind ∙ ap kind_of (sym bd)) (λ out. inode out ∙ ap inode_of (sym here))

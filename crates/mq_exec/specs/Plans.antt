@@ -1,7 +1,8 @@
 -- Requests that change, once it is known what they come to.
-use Rattle.std.specs.Prelude.{◌≡◌, ◌≢◌, ◌<◌, ◌≤◌, ◌-◌, ℕ, Bool, true, false, List, [], ◌∷◌, ◌++◌, length, slice_index, Option, Some, None, if◌then◌else◌, nat_eq, nat_le}
+use Rattle.std.specs.Prelude.{◌≡◌, ◌≢◌, ◌<◌, ◌≤◌, ◌+◌, ◌-◌, ℕ, Bool, true, false, List, [], ◌∷◌, ◌++◌, length, slice_index, Option, Some, None, if◌then◌else◌, nat_eq, nat_le}
 use Rattle.std.specs.List.{All}
 use Rattle.mq_blocks.specs.declared.geometry.Geometry.{Geometry}
+use Rattle.mq_exec.specs.declared.link.Linking.{Linking}
 use Rattle.mq_exec.specs.declared.make.Creation.{Creation}
 use Rattle.mq_exec.specs.declared.remove.Removal.{Removal}
 use Rattle.mq_exec.specs.declared.rename.Renaming.{Renaming}
@@ -10,7 +11,7 @@ use Rattle.mq_exec.specs.declared.file.Found.{Found}
 use Rattle.mq_inodes.specs.Bare.{with_inode}
 use Rattle.mq_inodes.specs.Dirs.{AreDirsAt, slots_at}
 use Rattle.mq_inodes.specs.Edits.{Becomes}
-use Rattle.mq_inodes.specs.Opened.{HoldsPointers, IsOpened, IsReleasable, IsTakeable, MayGrow, MayLink, MayUnlink}
+use Rattle.mq_inodes.specs.Opened.{HoldsPointers, IsOpened, IsReleasable, IsTakeable, MayCount, MayGrow, MayLink, MayUnlink}
 use Rattle.mq_inodes.specs.Pages.{IsHeld, Pages}
 use Rattle.mq_inodes.specs.Files.{IsFileOf}
 use Rattle.mq_inodes.specs.Picks.{IsMarkable}
@@ -20,7 +21,7 @@ use Rattle.mq_inodes.specs.declared.opened.Opened.{Opened}
 use Rattle.mq_inodes.specs.declared.working.Working.{Working}
 use Rattle.mq_layout.specs.Places.{file_limit, inode_bitmap, inode_block, inodes_of, names_limit}
 use Rattle.mq_layout.specs.Slots.{Entry}
-use Rattle.mq_tree.specs.Requests.{In, Lost, Root, RequestTarget, Verdict, carried_out, count_names, entry_needs, freed, is_below, linked, make, refused, rename, resized, target, unlinked, unused}
+use Rattle.mq_tree.specs.Requests.{In, Lost, Root, RequestTarget, Verdict, carried_out, count_names, entry_needs, freed, is_below, link, linked, make, refused, rename, resized, target, unlinked, unused, with_links}
 use Rattle.mq_tree.specs.Sound.{blocks_for}
 use Rattle.mq_tree.specs.Volume.{Body, Free, File, Dir, Path, Volume, body, find, slots_of, way}
 use Rattle.mq_tree.specs.declared.request.Fault.{Fault}
@@ -182,3 +183,36 @@ abbrev pub HoldsPlaces : Pages → (blocks : List ℕ) → (first past : ℕ) �
 HoldsPlaces pages blocks first past =
     (place : ℕ) → first ≤ place → place < past → place < length blocks
     → IsHeld pages (slice_index blocks place)
+
+-- A file loses the name of the path and keeps others: the blocks are its directory's.
+pub record PlansShed (g : Geometry) (v : Volume) (path : Path) (blocks : List ℕ)
+    (f : Found) : Type 0 where
+  pub target_is : target v (way path) ≡ In f.directory (last_of (way path)) (Some f.number)
+  pub unlink : MayUnlink g v f.directory blocks
+  pub found : find (last_of (way path)) (slots_of (body v f.directory)) ≡ Some f.number
+  pub other : f.number ≢ f.directory
+  pub count : MayCount g v f.number (f.inode.links - 1) f.inode
+
+-- ---- one more name of a file
+
+abbrev pub linked_entry : Path → Linking → Entry
+linked_entry to m = record { inode = m.file.number; name = last_of (way to) }
+
+-- the file with a link more, before its name is added
+abbrev pub more_links : Volume → Linking → Volume
+more_links v m = with_links v m.file.number (m.file.inode.links + 1)
+
+pub record PlansLink (g : Geometry) (q : ℕ) (v : Volume) (from to : Path) (m : Linking) : Type 0 where
+  pub carried : IsCarried g v (link g q v (target v (way to)) (target v (way from)))
+      (linked g q (more_links v m) m.directory.number (linked_entry to m))
+  pub count : MayCount g v m.file.number (m.file.inode.links + 1) m.file.inode
+  pub link : MayLink g q (more_links v m) m.directory (linked_entry to m) m.picks.items
+  pub some : (name : List ℕ) × (rest : List (List ℕ)) × (way to ≡ name ∷ rest)
+
+pub record HoldsLink (g : Geometry) (pages : Pages) (m : Linking) : Type 0 where
+  pub file : IsHeld pages (inode_block g m.file.number)
+  pub dirs : AreDirsAt pages m.directory.blocks.items
+  pub few : length m.directory.blocks.items ≤ 1036
+  pub table : IsHeld pages (inode_block g m.directory.number)
+  pub pointers : HoldsPointers pages m.directory
+  pub picks : All (IsTakeable g pages) m.picks.items

@@ -16,7 +16,7 @@ use Rattle.mq_tree.specs.declared.request.Fault.TheVariants.{BadName, NotFound}
 use Rattle.mq_tree.specs.declared.request.Reply.{Reply}
 use Rattle.mq_tree.specs.declared.request.Reply.TheVariants.{Ok as Ready}
 use Rattle.mq_tree.specs.declared.request.Request.{Request}
-use Rattle.mq_tree.specs.declared.request.Request.TheVariants.{Mkdir, Create, Write, Truncate, Unlink, Rmdir, Rename, Read, List as ListOf, Stat}
+use Rattle.mq_tree.specs.declared.request.Request.TheVariants.{Mkdir, Create, Write, Truncate, Unlink, Rmdir, Rename, Link, Read, List as ListOf, Stat}
 
 -- the inode that is read at a target
 abbrev pub number_of : Target → Result ℕ Fault
@@ -67,6 +67,7 @@ path_of (Truncate p size) = p
 path_of (Unlink p) = p
 path_of (Rmdir p) = p
 path_of (Rename p to) = p
+path_of (Link p to) = p
 path_of (Read p at count) = p
 path_of (ListOf p) = p
 path_of (Stat p) = p
@@ -80,6 +81,7 @@ reading (Truncate p size) x = Ready
 reading (Unlink p) x = Ready
 reading (Rmdir p) x = Ready
 reading (Rename p to) x = Ready
+reading (Link p to) x = Ready
 reading (Read p at count) x = read_in at count x
 reading (ListOf p) x = list_in x
 reading (Stat p) x = stat_in x

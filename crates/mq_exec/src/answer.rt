@@ -23,6 +23,7 @@ fn path_in(request: &Request) -> &Path
         Request::Unlink(path) => path,
         Request::Rmdir(path) => path,
         Request::Rename(path, _) => path,
+        Request::Link(path, _) => path,
         Request::Read(path, ..) => path,
         Request::List(path) => path,
         Request::Stat(path) => path,

@@ -9,6 +9,7 @@ ghost use Rattle.mq_tree.specs.Looks.{Looks, LooksAt};
 ghost use Rattle.mq_tree.specs.Requests.{act, is_change, is_named as is_named_of, verdict};
 
 use crate::answer::answer;
+use crate::link::link;
 use crate::make::make;
 use crate::named_inode::is_good_path;
 use crate::remove::{rmdir, unlink};
@@ -32,6 +33,7 @@ fn is_named(request: &Request) -> bool
         Request::Unlink(path) => is_good_path(path),
         Request::Rmdir(path) => is_good_path(path),
         Request::Rename(from, to) => is_good_path(from) && is_good_path(to),
+        Request::Link(from, to) => is_good_path(from) && is_good_path(to),
         Request::Read(path, ..) => is_good_path(path),
         Request::List(path) => is_good_path(path),
         Request::Stat(path) => is_good_path(path),
@@ -65,6 +67,7 @@ fn change(
         Request::Unlink(path) => unlink(alloc, working, path),
         Request::Rmdir(path) => rmdir(alloc, working, path),
         Request::Rename(from, to) => rename(alloc, working, queue, from, to),
+        Request::Link(from, to) => link(alloc, working, queue, from, to),
         _ => unreachable!(),
     }
 }

@@ -43,6 +43,7 @@ pub fn copy_request(alloc: Global, request: &Request) -> Result<Request, OutOfMe
         Request::Rename(from, to) => {
             Request::Rename(copy_path(alloc, from)?, copy_path(alloc, to)?)
         }
+        Request::Link(from, to) => Request::Link(copy_path(alloc, from)?, copy_path(alloc, to)?),
         Request::Read(path, at, count) => Request::Read(copy_path(alloc, path)?, *at, *count),
         Request::List(path) => Request::List(copy_path(alloc, path)?),
         Request::Stat(path) => Request::Stat(copy_path(alloc, path)?),

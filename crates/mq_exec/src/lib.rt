@@ -9,6 +9,7 @@ mod copies;
 mod file;
 mod group;
 mod laws;
+mod link;
 mod make;
 mod named_inode;
 mod outcome;

@@ -1,9 +1,10 @@
 // Files and directories that are removed.
-ghost use Rattle.std.specs.Prelude.{◌≡◌, ℕ, true, IfErr, IfOk, MatchResult, OnOk, ⊤, ◌⊎◌};
+ghost use Rattle.std.specs.Prelude.{◌≡◌, ◌≤◌, ◌-◌, ℕ, length, true, IfErr, IfOk, MatchResult, OnOk, ⊤, ◌⊎◌};
 ghost use Rattle.std.specs.List.{All, Contains, list_all};
-ghost use Rattle.mq_exec.specs.Plans.{ComesTo, HoldsRemove, IsRefused, MayRelease, PlansRemove};
+ghost use Rattle.mq_exec.specs.Plans.{ComesTo, HoldsRemove, IsFound, IsRefused, MayRelease, PlansRemove, PlansShed};
 ghost use Rattle.mq_exec.specs.Removes.{IsInZones, LooksFreed, owned as owned_by};
 ghost use Rattle.mq_inodes.specs.Changes.{zone_in};
+ghost use Rattle.mq_inodes.specs.Dirs.{AreDirsAt};
 ghost use Rattle.mq_inodes.specs.Edits.{Becomes, IsOver};
 ghost use Rattle.mq_inodes.specs.Fits.{Agrees};
 ghost use Rattle.mq_inodes.specs.MissingPages.{HasVolume, MissingOf, OfEach};
@@ -11,13 +12,13 @@ ghost use Rattle.mq_inodes.specs.Opened.{IsOpened};
 ghost use Rattle.mq_inodes.specs.Pages.{IsHeld, pages_of};
 ghost use Rattle.mq_inodes.specs.Walks.{last_of};
 ghost use Rattle.mq_layout.specs.Names.{is_name};
-ghost use Rattle.mq_layout.specs.Places.{inode_bitmap as inode_bitmap_of, zone_bitmap as zone_bitmap_of};
+ghost use Rattle.mq_layout.specs.Places.{inode_bitmap as inode_bitmap_of, inode_block as inode_block_of, zone_bitmap as zone_bitmap_of};
 ghost use Rattle.mq_tree.specs.Looks.{LooksAt};
-ghost use Rattle.mq_tree.specs.Requests.{Verdict, freed, rmdir as rmdir_of, target as target_of, unlink as unlink_of, unlinked};
+ghost use Rattle.mq_tree.specs.Requests.{Verdict, freed, rmdir as rmdir_of, target as target_of, unlink as unlink_of, unlinked, with_links};
 ghost use Rattle.mq_tree.specs.Volume.{Volume, way};
 ghost use Rattle.mq_tree.specs.declared.request.Request.TheVariants.{Rmdir, Unlink};
 
-use crate::file::find_file;
+use crate::file::{Found, find_file};
 use mq_blocks::{BlockNo, Geometry, OutOfMemory, QueueNo};
 use mq_inodes::{DIRECT, DIRECTORY, Missing, Opened, Target, Working};
 use mq_layout::{Inode, inode_bitmap, zone_bitmap};
@@ -112,31 +113,28 @@ fn look_to_free(alloc: Global, working: &Working, o: &Opened) -> Result<(), Miss
     working.look_for_all(alloc, &bitmaps)
 }
 
-/// What removing a file takes, or why it is refused.
+/// What removing the last name of a file takes.
 fn plan_unlink(
     alloc: Global,
     working: &Working,
     path: &Path,
-) -> Result<Result<Removal, Fault>, Missing>
+    found: &Found,
+) -> Result<Removal, Missing>
     requires possible { HasVolume working.now }
     requires names { list_all is_name path.now ≡ true }
-    ensures ok { IfOk result (λ plan. OfEach working.now
-        (λ v. MatchResult plan
-        (PlansRemove working.now.geometry v (unlink_of v (target_of v (way path.now))) path.now)
-        (IsRefused working.now.geometry v (unlink_of v (target_of v (way path.now)))))) }
-    ensures pages { IfOk result (λ plan. MatchResult plan
-        (HoldsRemove working.now.geometry (pages_of working.now)) (λ _. ⊤)) }
+    requires found { OfEach working.now (λ v. IsFound v path.now found.now) }
+    requires last { found.now.inode.links ≤ 1 }
+    requires table { IsHeld (pages_of working.now) (inode_block_of working.now.geometry found.now.number) }
+    ensures ok { IfOk result (λ m. OfEach working.now
+        (λ v. PlansRemove working.now.geometry v (unlink_of v (target_of v (way path.now))) path.now m)) }
+    ensures pages { IfOk result (HoldsRemove working.now.geometry (pages_of working.now)) }
     ensures lack { IfErr result (MissingOf working.now (λ v b. (q : ℕ)
         → LooksAt working.now.geometry q v (Unlink path.now) b)) }
 {
-    let found = match find_file(alloc, working, path)? {
-        Ok(found) => found,
-        Err(fault) => return Ok(Err(fault)),
-    };
     let directory = working.open_directory(alloc, found.directory)?;
     let gone = working.open_file(alloc, found.number, &found.inode)?;
     look_to_free(alloc, working, &gone)?;
-    Ok(Ok(Removal { directory, gone }))
+    Ok(Removal { directory, gone })
 }
 
 /// What removing a directory takes, or why it is refused.
@@ -204,7 +202,36 @@ fn carry_remove(
     working.free_inode_of(alloc, &removal.gone)
 }
 
-/// Removes a file.
+/// Removes one of several names of a file: the file stays, and has a link less.
+fn shed(
+    alloc: Global,
+    working: &mut Working,
+    path: &Path,
+    blocks: &[BlockNo],
+    found: &Found,
+) -> Result<(), OutOfMemory>
+    requires possible { (v : Volume)
+        × Agrees working.old.geometry (pages_of working.old) v
+        × PlansShed working.old.geometry v path.now blocks.now found.now }
+    requires dirs { AreDirsAt (pages_of working.old) blocks.now }
+    requires few { length blocks.now ≤ 1036 }
+    requires table { IsHeld (pages_of working.old) (inode_block_of working.old.geometry found.now.number) }
+    ensures over { OnOk result (IsOver working.old working.new) }
+    ensures shed { OnOk result ((v : Volume)
+        → Agrees working.old.geometry (pages_of working.old) v
+        → PlansShed working.old.geometry v path.now blocks.now found.now
+        → Becomes working.old.geometry v
+        (with_links (unlinked v found.now.directory
+        (last_of (way path.now))) found.now.number (found.now.inode.links - 1)) working.old working.new) }
+{
+    let Some(name) = path.0.last() else {
+        unreachable!();
+    };
+    working.unlink_name(alloc, blocks, &name.0)?;
+    working.put_links(alloc, found.number, &found.inode, found.inode.links - 1)
+}
+
+/// Removes a name of a file, and the file with its last name.
 pub fn unlink(alloc: Global, working: &mut Working, path: &Path) -> Result<Reply, Missing>
     requires possible { HasVolume working.old }
     requires names { list_all is_name path.now ≡ true }
@@ -215,10 +242,17 @@ pub fn unlink(alloc: Global, working: &mut Working, path: &Path) -> Result<Reply
     ensures lack { IfErr result (MissingOf working.old (λ v b. (q : ℕ)
         → LooksAt working.old.geometry q v (Unlink path.now) b)) }
 {
-    match plan_unlink(alloc, working, path)? {
-        Ok(removal) => carry_remove(alloc, working, path, &removal)?,
+    let found = match find_file(alloc, working, path)? {
+        Ok(found) => found,
         Err(fault) => return Ok(Reply::Refused(fault)),
+    };
+    if found.inode.links > 1 {
+        let directory = working.open_directory(alloc, found.directory)?;
+        shed(alloc, working, path, &directory.blocks, &found)?;
+        return Ok(Reply::Ok);
     }
+    let removal = plan_unlink(alloc, working, path, &found)?;
+    carry_remove(alloc, working, path, &removal)?;
     Ok(Reply::Ok)
 }
 

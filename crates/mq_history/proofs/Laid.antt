@@ -29,6 +29,7 @@ use Rattle.mq_tree.proofs.LaidRegions.{region-inode_marks, region-table, region-
 use Rattle.mq_tree.proofs.LaidUnique.{node-parts}
 use Rattle.mq_tree.specs.Decoded.{table_of}
 use Rattle.mq_tree.specs.Laid.{InodeMarks, IsLaid, IsPage, IsVacant, Region, ShowsPage, ShowsPart, ShowsPointers, ShowsRegion, ShowsTable, ShowsUse, Super, Table, Zone, ZoneMarks, inode_marked, inode_of, region, size_of, zone_marked}
+use Rattle.mq_tree.specs.Links.{HasLinks}
 use Rattle.mq_tree.specs.Sound.{AreBytes, AreEntries, IsBody, IsNode, IsSound}
 use Rattle.mq_tree.specs.Volume.{Body, Free, File, Dir, Node, Use, Part, Pointers, Volume, block_in, body, free_node, is_taken, is_used, node}
 use Rattle.mq_tree.proofs.Empty.{free-inode}
@@ -43,7 +44,7 @@ none-in (x ∷ xs) e = absurd (omega (arith, e))
 free-is : (n : Node) → IsNode n → n.body ≡ Free → n ≡ free_node
 free-is n h e =
     let few : length n.blocks ≡ 0 = subst (λ (x : Body). IsBody x (length n.blocks)) e h.body in
-    node-parts n free_node e (none-in n.blocks few) (none-of n.indirect (h.indirect ∙ ap (λ (k : ℕ). nat_lt 12 k) few))
+    node-parts n free_node e (none-in n.blocks few) (none-of n.indirect (h.indirect ∙ ap (λ (k : ℕ). nat_lt 12 k) few)) (subst (λ (x : Body). HasLinks x n.links) e h.links)
 
 size-few : (x : Body) (count : ℕ) → IsBody x count → size_of x count ≤ file_limit
 size-few Free count h = omega arith

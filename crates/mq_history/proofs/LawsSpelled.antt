@@ -12,7 +12,7 @@ use Rattle.mq_script.specs.Spelled.{AskAll, Asks, IsData, SpellAll}
 use Rattle.mq_tree.specs.Kept.{HasBytes}
 use Rattle.mq_tree.specs.Sound.{AreBytes}
 use Rattle.mq_tree.specs.declared.request.Request.{Request}
-use Rattle.mq_tree.specs.declared.request.Request.TheVariants.{Mkdir, Create, Write, Truncate, Unlink, Rmdir, Rename, Read, List as ListOf, Stat}
+use Rattle.mq_tree.specs.declared.request.Request.TheVariants.{Mkdir, Create, Write, Truncate, Unlink, Rmdir, Rename, Link, Read, List as ListOf, Stat}
 
 quotable-small : (b : ℕ) → is_quotable b ≡ true → b < 256
 quotable-small b h =
@@ -49,6 +49,7 @@ asked-bytes line (Truncate p size) h = tt
 asked-bytes line (Unlink p) h = tt
 asked-bytes line (Rmdir p) h = tt
 asked-bytes line (Rename p q) h = tt
+asked-bytes line (Link p q) h = tt
 asked-bytes line (Read p offset count) h = tt
 asked-bytes line (ListOf p) h = tt
 asked-bytes line (Stat p) h = tt

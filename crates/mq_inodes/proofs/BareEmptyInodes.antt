@@ -13,6 +13,7 @@ use Rattle.mq_inodes.specs.Bare.{empty_body, with_inode}
 use Rattle.mq_inodes.specs.declared.working.Working.{Working}
 use Rattle.mq_inodes.proofs.EditsBecoming.{becomes-stepped}
 use Rattle.mq_inodes.proofs.ChangesBodies.{bare-form}
+use Rattle.mq_inodes.proofs.ChangesUses.{used-links}
 use Rattle.mq_inodes.proofs.ChangesInodes.{bare}
 use Rattle.mq_inodes.proofs.ChangesVolumes.{bare-uses, made-step}
 use Rattle.mq_layout.specs.Inodes.{IsInode}
@@ -61,7 +62,7 @@ inode-made g v i directory inode old mid new c inside good is same at kinds kind
     let y = empty_body directory in
     let low : i < length v = (let e = c.count in omega arith) in
     let step = made-step g v i y (pages_of old) (pages_of mid) (pages_of new) c.uses low inside good is (empty-used directory) (empty-few directory) c.fits m p in
-    becomes-stepped g v (with_inode v i y) old new (inode_bitmap g ∷ inode_block g i ∷ []) c (bare-uses g v i (bare y) c.uses low refl refl) (length-set v i (bare y)) step
+    becomes-stepped g v (with_inode v i y) old new (inode_bitmap g ∷ inode_block g i ∷ []) c (bare-uses g v i (bare y) c.uses low refl refl (used-links y (empty-used directory))) (length-set v i (bare y)) step
     known (λ b high out. kinds_then b (subst (λ x. meta_of x ≤ b) (sym at) high) ∙ kinds b (subst (λ x. meta_of x ≤ b) (sym same) high))
     (λ b kind high y e. absurd (let l = low-two g i b inside y in omega arith))
   where

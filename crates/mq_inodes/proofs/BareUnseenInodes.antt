@@ -19,7 +19,7 @@ use Rattle.mq_inodes.proofs.ChangesFits.{fits-end, fits-put}
 use Rattle.mq_inodes.proofs.ChangesInodes.{bare}
 use Rattle.mq_inodes.proofs.ChangesPages.{inode_marks-one}
 use Rattle.mq_inodes.proofs.ChangesSteps.{step-start}
-use Rattle.mq_inodes.proofs.ChangesUses.{Rewrites}
+use Rattle.mq_inodes.proofs.ChangesUses.{Rewrites, used-links}
 use Rattle.mq_inodes.proofs.ChangesVolumes.{bare-uses, free-bare}
 use Rattle.mq_layout.specs.Places.{inode_bitmap, inode_block, inodes_of}
 use Rattle.mq_tree.specs.Sound.{IsNode}
@@ -42,14 +42,14 @@ fits-absent g pages v b fits none x out = elim (cases_eq x b) [
       fits x (ap (λ (c : Bool). cond c true (is_among x [])) n ∙ out)
 ]
 
-absent-fits : (g : Geometry) (v : Volume) (i : ℕ) (y : Body) (old new : Pages) → AreUses g v → i < length v → (node v i).blocks ≡ [] → (node v i).indirect ≡ None → Fits g old v → IsInodeMarked g old new i (is_used y) → new (inode_block g i) ≡ None → Fits g new (set v i (bare y))
-absent-fits g v i y old new uses low was none fits m absent =
+absent-fits : (g : Geometry) (v : Volume) (i : ℕ) (y : Body) (old new : Pages) → AreUses g v → i < length v → (node v i).blocks ≡ [] → (node v i).indirect ≡ None → is_used y ≡ true → Fits g old v → IsInodeMarked g old new i (is_used y) → new (inode_block g i) ≡ None → Fits g new (set v i (bare y))
+absent-fits g v i y old new uses low was none used fits m absent =
     let w = set v i (bare y) in
     let here : node w i ≡ bare y = node-here v i (bare y) low in
     let o : AreOthers v w i = λ x other. node-other v i x (bare y) other in
     let bs : (node w i).blocks ≡ [] = ap (λ (n : Node). n.blocks) here in
     let ind : (node w i).indirect ≡ None = ap (λ (n : Node). n.indirect) here in
-    let fine : AreUses g w = bare-uses g v i (bare y) uses low refl refl in
+    let fine : AreUses g w = bare-uses g v i (bare y) uses low refl refl (used-links y used) in
     let a = inode_bitmap g in
     let b = inode_block g i in
     let r : Rewrites g v w i (a ∷ b ∷ []) = bare-rewrites g v w i (a ∷ b ∷ []) o was bs none ind (λ out. absurd (true≢false (sym (among-here a (b ∷ [])) ∙ out))) (λ out. absurd (true≢false (sym (among-behind a b (b ∷ []) (among-here b [])) ∙ out))) in
@@ -62,7 +62,7 @@ inode-unseen g v i directory old new c inside good is m absent =
     let low : i < length v = (let e = c.count in omega arith) in
     let none = free-bare (node v i) good is in
     record {
-      uses = bare-uses g v i (bare y) c.uses low refl refl;
+      uses = bare-uses g v i (bare y) c.uses low refl refl (used-links y (empty-used directory));
       count = length-set v i (bare y) ∙ c.count;
-      fits = absent-fits g v i y (pages_of old) (pages_of new) c.uses low none.0 none.1 c.fits (subst (λ t. IsInodeMarked g (pages_of old) (pages_of new) i t) (sym (empty-used directory)) m) absent;
+      fits = absent-fits g v i y (pages_of old) (pages_of new) c.uses low none.0 none.1 (empty-used directory) c.fits (subst (λ t. IsInodeMarked g (pages_of old) (pages_of new) i t) (sym (empty-used directory)) m) absent;
     }

@@ -17,6 +17,7 @@ use Rattle.mq_layout.specs.Places.{inode_bitmap, inode_block, zone_bitmap}
 use Rattle.mq_tree.proofs.CleanLaid.{length-padded}
 use Rattle.mq_tree.proofs.FreeUses.{push-get}
 use Rattle.mq_tree.specs.Laid.{ShowsPart, ShowsPointers, inode_of, kind_of, padded, zone_block}
+use Rattle.mq_tree.specs.Links.{HasLinks}
 use Rattle.mq_tree.specs.Volume.{Body, Free, File, Dir, Part, Pointers, Volume, block_in, body, has_block, is_block, is_taken, is_used, node}
 use Rattle.mq_tree.specs.Uses.{AreUses}
 use Rattle.mq_tree.proofs.LaidUnique.{padded-at}
@@ -48,7 +49,7 @@ used-kind (Dir slots) Free e = absurd (omega arith)
 used-kind (Dir slots) (File bytes) e = refl
 used-kind (Dir slots) (Dir now) e = refl
 
-body-shows : (x y : Body) (k : ℕ) (page : List ℕ) → x ≡ y → ShowsPart x k page ↔ ShowsPart y k page
+pub body-shows : (x y : Body) (k : ℕ) (page : List ℕ) → x ≡ y → ShowsPart x k page ↔ ShowsPart y k page
 body-shows x y k page e = (subst (λ b. ShowsPart b k page) e, subst (λ b. ShowsPart b k page) (sym e))
 
 pointers-show : (xs ys : List ℕ) (page : List ℕ) → xs ≡ ys → ShowsPointers xs page ↔ ShowsPointers ys page
@@ -72,8 +73,8 @@ kept-rewrites g v w i blocks o bs ind kind inode show = record {
   kind = λ k c out e. kind;
 }
 
-pub kept-uses : (g : Geometry) (v w : Volume) (i : ℕ) → AreUses g v → AreOthers v w i → (node w i).blocks ≡ (node v i).blocks → (node w i).indirect ≡ (node v i).indirect → AreUses g w
-kept-uses g v w i uses o bs ind = uses-fewer g v w i uses o (λ k c e. ap (λ (xs : List ℕ). slice_get xs k) (sym bs) ∙ e) (λ c e. sym ind ∙ e)
+pub kept-uses : (g : Geometry) (v w : Volume) (i : ℕ) → AreUses g v → AreOthers v w i → (node w i).blocks ≡ (node v i).blocks → (node w i).indirect ≡ (node v i).indirect → HasLinks (body w i) (node w i).links → AreUses g w
+kept-uses g v w i uses o bs ind l = uses-fewer g v w i uses o (λ k c e. ap (λ (xs : List ℕ). slice_get xs k) (sym bs) ∙ e) (λ c e. sym ind ∙ e) l
 
 -- ---- a block more
 
@@ -111,14 +112,14 @@ more-rewrites g v w i b blocks o bd bs ind here zone inode far = record {
   kind = λ k c out e. ap kind_of (sym bd);
 }
 
-pub more-uses : (g : Geometry) (v w : Volume) (i b : ℕ) → AreUses g v → AreOthers v w i → (node w i).blocks ≡ (node v i).blocks ++ b ∷ [] → (node w i).indirect ≡ (node v i).indirect → meta_of g ≤ b → b < homes_of g → is_taken v b ≡ false → AreUses g w
-more-uses g v w i b uses o bs ind high home free =
+pub more-uses : (g : Geometry) (v w : Volume) (i b : ℕ) → AreUses g v → AreOthers v w i → (node w i).blocks ≡ (node v i).blocks ++ b ∷ [] → (node w i).indirect ≡ (node v i).indirect → meta_of g ≤ b → b < homes_of g → is_taken v b ≡ false → HasLinks (body w i) (node w i).links → AreUses g w
+more-uses g v w i b uses o bs ind high home free l =
     uses-new g v w i (Part i (length (node v i).blocks)) b uses o high home free
     (λ k c e. elim (push-get (node v i).blocks b k c (ap (λ (xs : List ℕ). slice_get xs k) (sym bs) ∙ e)) [
       | inl old ↦ inl old
       | inr new ↦ inr (ap (λ (x : ℕ). Part i x) new.0, new.1)
     ])
-    (λ c e. inl (sym ind ∙ e))
+    (λ c e. inl (sym ind ∙ e)) l
 
 -- past the twelfth the inode names the same blocks
 pub padded-push : (xs : List ℕ) (b : ℕ) → 12 ≤ length xs → padded 12 (xs ++ b ∷ []) ≡ padded 12 xs
@@ -151,9 +152,9 @@ pointed-rewrites g v w i b blocks o bd bs was ind here zone inode = record {
   kind = λ k c out e. ap kind_of (sym bd);
 }
 
-pub pointed-uses : (g : Geometry) (v w : Volume) (i b : ℕ) → AreUses g v → AreOthers v w i → (node w i).blocks ≡ (node v i).blocks → (node w i).indirect ≡ Some b → meta_of g ≤ b → b < homes_of g → is_taken v b ≡ false → AreUses g w
-pointed-uses g v w i b uses o bs ind high home free =
-    uses-new g v w i (Pointers i) b uses o high home free (λ k c e. inl (ap (λ (xs : List ℕ). slice_get xs k) (sym bs) ∙ e)) (λ c e. inr (refl, sym (same_Some b c (sym ind ∙ e))))
+pub pointed-uses : (g : Geometry) (v w : Volume) (i b : ℕ) → AreUses g v → AreOthers v w i → (node w i).blocks ≡ (node v i).blocks → (node w i).indirect ≡ Some b → meta_of g ≤ b → b < homes_of g → is_taken v b ≡ false → HasLinks (body w i) (node w i).links → AreUses g w
+pointed-uses g v w i b uses o bs ind high home free l =
+    uses-new g v w i (Pointers i) b uses o high home free (λ k c e. inl (ap (λ (xs : List ℕ). slice_get xs k) (sym bs) ∙ e)) (λ c e. inr (refl, sym (same_Some b c (sym ind ∙ e)))) l
 
 -- ---- fewer blocks
 

@@ -15,12 +15,13 @@ use Rattle.mq_inodes.proofs.Changes.{fewer-rewrites}
 use Rattle.mq_inodes.proofs.ChangesInodes.{fits-cleared, fits-gone, fits-inode}
 use Rattle.mq_inodes.proofs.LaidParts.{file-along}
 use Rattle.mq_inodes.proofs.ChangesSteps.{step-over, zone-held, zone-put}
-use Rattle.mq_inodes.proofs.ChangesUses.{Rewrites, uses-fewer}
+use Rattle.mq_inodes.proofs.ChangesUses.{Rewrites, uses-fewer, links-at}
 use Rattle.mq_layout.specs.Inodes.{IsInode}
 use Rattle.mq_layout.specs.Places.{file_limit, inode_block, zone_bitmap}
 use Rattle.mq_layout.specs.Places.{inodes_of}
 use Rattle.mq_tree.proofs.VolumeChanges.{kept-option, take-get}
 use Rattle.mq_tree.specs.Laid.{ShowsPart, ShowsPointers, inode_of, kind_of, size_of}
+use Rattle.mq_tree.specs.Links.{HasLinks}
 use Rattle.mq_tree.specs.Volume.{Body, File, Node, Pointers, Volume, body, has_block, is_used, node, cut_node}
 use Rattle.mq_tree.proofs.FreeUses.{node-here, node-other}
 use Rattle.mq_tree.specs.Uses.{AreUses}
@@ -69,7 +70,7 @@ cut-step g v i count bytes now blocks gone old new uses low inside is few same l
     pointers c e = kept-option (nat_lt 12 count) (node v i).indirect c (sym (ap (λ (n : Node). n.indirect) here) ∙ e)
 
     fine : AreUses g w
-    fine = uses-fewer g v w i uses o parts pointers
+    fine = uses-fewer g v w i uses o parts pointers (links-at w i (cut_node (node v i) count now) here (subst (λ (x : Body). HasLinks x (node v i).links) is (uses.links i)))
 
     low-place : (k c : ℕ) → slice_get (node v i).blocks k ≡ Some c → is_among c blocks ≡ false → k < count
     low-place k c e out = elim (cases_lt k count) [

@@ -63,7 +63,7 @@ gone-left v i count bytes c low out =
     let n = node v i in
     let p = among-parts (drop count n.blocks) (if nat_lt 12 count then [] else if_some n.indirect) c out in
     ap (λ (t : Bool). t || is_block c n.indirect) (among-take count n.blocks c p.0) ∙ ap (λ (t : Bool). is_among c (take count n.blocks) || t) (pointer (nat_lt 12 count) n.indirect p.1)
-    ∙ ap (λ (m : Node). has_block m c) (sym (node-here v i (record { body = _; blocks = take count n.blocks; indirect = if nat_lt 12 count then n.indirect else None }) low))
+    ∙ ap (λ (m : Node). has_block m c) (sym (node-here v i (record { body = _; blocks = take count n.blocks; indirect = if nat_lt 12 count then n.indirect else None; links = n.links }) low))
   where
     pointer : (t : Bool) (x : Option ℕ) → is_among c (if t then [] else if_some x) ≡ false → is_block c x ≡ is_block c (if t then x else None)
     pointer true x e = refl

@@ -15,7 +15,7 @@ use Rattle.mq_inodes.proofs.Changes.{bare-rewrites, fewer-rewrites}
 use Rattle.mq_inodes.proofs.ChangesFits.{fits-put}
 use Rattle.mq_inodes.proofs.ChangesPages.{inode_marks-one, table-put}
 use Rattle.mq_inodes.proofs.ChangesSteps.{gone-vacant, marks-gone, put-before, step-end, step-over, step-start}
-use Rattle.mq_inodes.proofs.ChangesUses.{Rewrites, uses-fewer}
+use Rattle.mq_inodes.proofs.ChangesUses.{Rewrites, uses-fewer, links-at, used-links}
 use Rattle.mq_layout.specs.Empty.{free_inode}
 use Rattle.mq_layout.specs.Inodes.{IsInode, ShowsInode, inode_bytes}
 use Rattle.mq_layout.specs.Places.{inode_bitmap, inode_block, inode_place, inodes_of, zone_bitmap}
@@ -31,21 +31,21 @@ use Rattle.mq_tree.proofs.Empty.{free-inode}
 -- ---- an inode without blocks
 
 abbrev pub bare : Body → Node
-bare y = record { body = y; blocks = []; indirect = None }
+bare y = record { body = y; blocks = []; indirect = None; links = 1 }
 
 marks-apart : (g : Geometry) (i : ℕ) → inode_bitmap g ≢ inode_block g i
 marks-apart g i e = omega arith
 
 -- it is marked as used or as free, and written
-pub bare-step : (g : Geometry) (v : Volume) (i : ℕ) (y : Body) (old mid new : Pages) → AreUses g v → i < length v → i < inodes_of g → (node v i).blocks ≡ [] → (node v i).indirect ≡ None → IsInode (inode_of (bare y))
+pub bare-step : (g : Geometry) (v : Volume) (i : ℕ) (y : Body) (old mid new : Pages) → AreUses g v → i < length v → i < inodes_of g → (node v i).blocks ≡ [] → (node v i).indirect ≡ None → is_used y ≡ true → IsInode (inode_of (bare y))
     → Fits g old v → IsInodeMarked g old mid i (is_used y) → IsInodePut g mid new i (inode_of (bare y)) → Stepped g v (set v i (bare y)) new (inode_bitmap g ∷ inode_block g i ∷ [])
-bare-step g v i y old mid new uses low inside was none good fits m p =
+bare-step g v i y old mid new uses low inside was none used good fits m p =
     let w = set v i (bare y) in
     let here : node w i ≡ bare y = node-here v i (bare y) low in
     let o : AreOthers v w i = λ x other. node-other v i x (bare y) other in
     let bs : (node w i).blocks ≡ [] = ap (λ (n : Node). n.blocks) here in
     let ind : (node w i).indirect ≡ None = ap (λ (n : Node). n.indirect) here in
-    let fine : AreUses g w = uses-fewer g v w i uses o (λ k c e. absurd (none-some c (ap (λ (xs : List ℕ). slice_get xs k) (sym bs) ∙ e))) (λ c e. absurd (none-some c (sym ind ∙ e))) in
+    let fine : AreUses g w = uses-fewer g v w i uses o (λ k c e. absurd (none-some c (ap (λ (xs : List ℕ). slice_get xs k) (sym bs) ∙ e))) (λ c e. absurd (none-some c (sym ind ∙ e))) (links-at w i (bare y) here (used-links y used)) in
     let a = inode_bitmap g in
     let b = inode_block g i in
     let r : Rewrites g v w i (a ∷ b ∷ []) = bare-rewrites g v w i (a ∷ b ∷ []) o was bs none ind (λ out. absurd (true≢false (sym (among-here a (b ∷ [])) ∙ out))) (λ out. absurd (true≢false (sym (among-behind a b (b ∷ []) (among-here b [])) ∙ out))) in
@@ -118,7 +118,7 @@ freed-step g v i blocks old new uses low inside listed fits rest inode used gone
     pointers c e = absurd (none-some c (sym ind ∙ e))
 
     fine : AreUses g w
-    fine = uses-fewer g v w i uses o parts pointers
+    fine = uses-fewer g v w i uses o parts pointers (links-at w i free_node here refl)
 
     out-own : (k c : ℕ) → slice_get (node v i).blocks k ≡ Some c → is_among c blocks ≡ false → ⊥
     out-own k c e out = true≢false (sym (listed.own c (use-has (node v i) c (inl (k, e)))).0 ∙ out)

@@ -22,7 +22,7 @@ use Rattle.mq_inodes.proofs.ChangesFrame.{taken-same}
 use Rattle.mq_inodes.proofs.ChangesPages.{table-put}
 use Rattle.mq_inodes.proofs.LaidParts.{pointers-written, zeros-number}
 use Rattle.mq_inodes.proofs.ChangesSteps.{mark-put, put-before, step-end, step-start, zone-held, zone-put}
-use Rattle.mq_inodes.proofs.ChangesUses.{Rewrites}
+use Rattle.mq_inodes.proofs.ChangesUses.{Rewrites, links-at}
 use Rattle.mq_layout.specs.Bits.{pointer_of}
 use Rattle.mq_layout.specs.Inodes.{inode_bytes}
 use Rattle.mq_layout.specs.Places.{file_limit, inode_block, inode_place, inodes_of, zone_bitmap}
@@ -30,7 +30,7 @@ use Rattle.mq_layout.specs.declared.inode.Inode.{Inode}
 use Rattle.mq_layout.proofs.FieldsWrites.{four_zeros}
 use Rattle.mq_tree.proofs.DecodedMounting.{zeros-page}
 use Rattle.mq_tree.specs.Free.{with_block, with_pointers}
-use Rattle.mq_tree.specs.Laid.{IsPage, ShowsPage, ShowsPart, ShowsPointers, inode_of, kind_of, links_of, or_zero, padded, size_of}
+use Rattle.mq_tree.specs.Laid.{IsPage, ShowsPage, ShowsPart, ShowsPointers, inode_of, kind_of, or_zero, padded, size_of}
 use Rattle.mq_tree.specs.Volume.{Node, Use, Part, Pointers, Volume, block_in, body, has_block, is_block, is_taken, is_used, node}
 use Rattle.mq_tree.proofs.FreeUses.{node-here, node-other}
 use Rattle.mq_tree.specs.Uses.{AreUses}
@@ -78,7 +78,7 @@ take-fits g v w u b rest old new fine f fits t is same blank but =
 
 -- an inode with a block more
 abbrev pub longer : Node → ℕ → Node
-longer n b = record { body = n.body; blocks = n.blocks ++ b ∷ []; indirect = n.indirect }
+longer n b = record { body = n.body; blocks = n.blocks ++ b ∷ []; indirect = n.indirect; links = n.links }
 
 pub get-last : (xs : List ℕ) (b : ℕ) → slice_get (xs ++ b ∷ []) (length xs) ≡ Some b
 get-last [] b = refl
@@ -100,7 +100,7 @@ is-longer g v i b uses low f shows =
     let o : AreOthers v w i = λ x other. node-other v i x (longer (node v i) b) other in
     let bs : (node w i).blocks ≡ (node v i).blocks ++ b ∷ [] = ap (λ (n : Node). n.blocks) here in
     let ind : (node w i).indirect ≡ (node v i).indirect = ap (λ (n : Node). n.indirect) here in
-    let fine = more-uses g v w i b uses o bs ind f.high f.home f.free in
+    let fine = more-uses g v w i b uses o bs ind f.high f.home f.free (links-at w i (longer (node v i) b) here (uses.links i)) in
     let there : block_in w (Part i (length (node v i).blocks)) ≡ Some b = ap (λ (xs : List ℕ). slice_get xs (length (node v i).blocks)) bs ∙ get-last (node v i).blocks b in
     record {
       here = here;
@@ -212,13 +212,13 @@ far_inode-step g v i b p old mid next new uses low inside used size many few ind
 -- a file's inode says the same with a block more past the twelfth
 pub file-far : (n : Node) (b : ℕ) → 12 ≤ length n.blocks → size_of n.body (length n.blocks) ≡ size_of n.body (length n.blocks + 1) → inode_of n ≡ inode_of (longer n b)
 file-far n b many same =
-    ap (λ (xs : List ℕ). record { kind = kind_of n.body; links = links_of n.body; size = size_of n.body (length n.blocks); direct = xs; indirect = or_zero n.indirect }) (sym (padded-push n.blocks b many))
-    ∙ ap (λ (s : ℕ). record { kind = kind_of n.body; links = links_of n.body; size = s; direct = padded 12 (n.blocks ++ b ∷ []); indirect = or_zero n.indirect }) (same ∙ ap (λ (c : ℕ). size_of n.body c) (sym (length-append n.blocks (b ∷ []))))
+    ap (λ (xs : List ℕ). record { kind = kind_of n.body; links = n.links; size = size_of n.body (length n.blocks); direct = xs; indirect = or_zero n.indirect }) (sym (padded-push n.blocks b many))
+    ∙ ap (λ (s : ℕ). record { kind = kind_of n.body; links = n.links; size = s; direct = padded 12 (n.blocks ++ b ∷ []); indirect = or_zero n.indirect }) (same ∙ ap (λ (c : ℕ). size_of n.body c) (sym (length-append n.blocks (b ∷ []))))
 
 -- ---- for its pointers
 
 abbrev pub with_indirect : Node → ℕ → Node
-with_indirect n b = record { body = n.body; blocks = n.blocks; indirect = Some b }
+with_indirect n b = record { body = n.body; blocks = n.blocks; indirect = Some b; links = n.links }
 
 zeros-pointer : (k : ℕ) → k < 1024 → pointer_of zeros k ≡ 0
 zeros-pointer k l =
@@ -238,7 +238,7 @@ pointed-step g v i b old mid new uses low inside used few near none f fits t p =
     let bs : (node w i).blocks ≡ (node v i).blocks = ap (λ (n : Node). n.blocks) here in
     let ind : (node w i).indirect ≡ Some b = ap (λ (n : Node). n.indirect) here in
     let bd : body w i ≡ body v i = ap (λ (n : Node). n.body) here in
-    let fine = pointed-uses g v w i b uses o bs ind f.high f.home f.free in
+    let fine = pointed-uses g v w i b uses o bs ind f.high f.home f.free (links-at w i (with_indirect (node v i) b) here (uses.links i)) in
     let z = zone_bitmap (zone_in g b) in
     let a = inode_block g i in
     let blocks = z ∷ b ∷ a ∷ [] in

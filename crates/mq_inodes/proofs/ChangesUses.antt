@@ -1,5 +1,5 @@
 -- The uses of a volume where one inode changes, and how it changes.
-use Rattle.std.proofs.Common.{◌≡◌, ℕ, ◌<◌, ◌≤◌, ◌⊎◌, inl, inr, List, false, sym, ap, subst, ◌∙◌}
+use Rattle.std.proofs.Common.{◌≡◌, ℕ, ◌<◌, ◌≤◌, ◌⊎◌, inl, inr, List, true, false, refl, sym, ap, subst, ◌∙◌, arith, lit<, lit≤}
 use Rattle.std.specs.Prelude.{Some, ◌↔◌, slice_get}
 use Rattle.std.proofs.lemmas.Bool.{cases_Bool, cases_eq, false_from_ne_true, true≢false}
 use Rattle.mq_blocks.specs.Geometry.{homes_of, meta_of, queues_of, zone_size}
@@ -9,7 +9,8 @@ use Rattle.mq_inodes.specs.Changes.{AreOthers, ChangesAt, IsKept, owner}
 use Rattle.mq_inodes.proofs.ChangesFrame.{has-use, use-along}
 use Rattle.mq_layout.specs.Places.{inode_bitmap, inode_block, zone_bitmap}
 use Rattle.mq_tree.specs.Laid.{ShowsPart, ShowsPointers, inode_of, kind_of, zone_block}
-use Rattle.mq_tree.specs.Volume.{Use, Part, Pointers, Volume, block_in, body, has_block, is_taken, is_used, node}
+use Rattle.mq_tree.specs.Links.{HasLinks}
+use Rattle.mq_tree.specs.Volume.{Body, Free, File, Dir, Node, Use, Part, Pointers, Volume, block_in, body, has_block, is_taken, is_used, node}
 use Rattle.mq_tree.proofs.FreeUses.{not-used, uses-within}
 use Rattle.mq_tree.specs.Uses.{AreUses}
 use Rattle.mq_tree.proofs.LaidUses.{use-has}
@@ -39,12 +40,41 @@ more-in v w i new b o parts pointers = record {
   ];
 }
 
+-- its links are in their range, and so are those of the others
+links-with : (v w : Volume) (i : ℕ) → ((x : ℕ) → HasLinks (body v x) (node v x).links) → AreOthers v w i → HasLinks (body w i) (node w i).links → (x : ℕ) → HasLinks (body w x) (node w x).links
+links-with v w i a o l x = elim (cases_eq x i) [
+  | inl same ↦ subst (λ y. HasLinks (body w y) (node w y).links) (sym same) l
+  | inr other ↦ subst (λ (n : Node). HasLinks n.body n.links) (sym (o x other)) (a x)
+]
+
+pub links-at : (w : Volume) (i : ℕ) (n : Node) → node w i ≡ n → HasLinks n.body n.links → HasLinks (body w i) (node w i).links
+links-at w i n here l = subst (λ (m : Node). HasLinks m.body m.links) (sym here) l
+
+-- a new file or directory has one link
+pub used-links : (y : Body) → is_used y ≡ true → HasLinks y 1
+used-links Free used = absurd (true≢false (sym used))
+used-links (File bytes) used = (lit≤ tt, lit< tt)
+used-links (Dir slots) used = refl
+
+-- a file may have the links of another, and so may a directory
+pub links-kind : (x y : Body) (k : ℕ) → kind_of x ≡ kind_of y → HasLinks x k → HasLinks y k
+links-kind Free Free k e l = l
+links-kind Free (File ys) k e l = absurd (omega arith)
+links-kind Free (Dir t) k e l = absurd (omega arith)
+links-kind (File xs) Free k e l = absurd (omega arith)
+links-kind (File xs) (File ys) k e l = l
+links-kind (File xs) (Dir t) k e l = absurd (omega arith)
+links-kind (Dir r) Free k e l = absurd (omega arith)
+links-kind (Dir r) (File ys) k e l = absurd (omega arith)
+links-kind (Dir r) (Dir t) k e l = l
+
 -- a free block of the zones is used, and no other that was not
 pub uses-new : (g : Geometry) (v w : Volume) (i : ℕ) (new : Use) (b : ℕ) → AreUses g v → AreOthers v w i → meta_of g ≤ b → b < homes_of g → is_taken v b ≡ false
-    → ((k c : ℕ) → slice_get (node w i).blocks k ≡ Some c → IsOld v (Part i k) new c b) → ((c : ℕ) → (node w i).indirect ≡ Some c → IsOld v (Pointers i) new c b) → AreUses g w
-uses-new g v w i new b a o high home free parts pointers =
+    → ((k c : ℕ) → slice_get (node w i).blocks k ≡ Some c → IsOld v (Part i k) new c b) → ((c : ℕ) → (node w i).indirect ≡ Some c → IsOld v (Pointers i) new c b) → HasLinks (body w i) (node w i).links → AreUses g w
+uses-new g v w i new b a o high home free parts pointers l =
     let m = more-in v w i new b o parts pointers in
     record {
+      links = links-with v w i a.links o l;
       zones = λ u c e. elim (m.more u c e) [
         | inl old ↦ a.zones u c old
         | inr n ↦ subst (λ y. (meta_of g ≤ y) × (y < homes_of g)) (sym n.1) (high, home)
@@ -63,14 +93,14 @@ uses-new g v w i new b a o high home free parts pointers =
 
 -- no block is used that was not
 pub uses-fewer : (g : Geometry) (v w : Volume) (i : ℕ) → AreUses g v → AreOthers v w i → ((k c : ℕ) → slice_get (node w i).blocks k ≡ Some c → slice_get (node v i).blocks k ≡ Some c)
-    → ((c : ℕ) → (node w i).indirect ≡ Some c → (node v i).indirect ≡ Some c) → AreUses g w
-uses-fewer g v w i a o parts pointers = uses-within g v w a (λ u c e. elim (cases_eq (owner u) i) [
+    → ((c : ℕ) → (node w i).indirect ≡ Some c → (node v i).indirect ≡ Some c) → HasLinks (body w i) (node w i).links → AreUses g w
+uses-fewer g v w i a o parts pointers l = uses-within g v w a (λ u c e. elim (cases_eq (owner u) i) [
   | inl own ↦ elim (use-cases u i own) [
     | inl p ↦ subst (λ x. block_in v x ≡ Some c) (sym p.1) (parts p.0 c (subst (λ x. block_in w x ≡ Some c) p.1 e))
     | inr p ↦ subst (λ x. block_in v x ≡ Some c) (sym p) (pointers c (subst (λ x. block_in w x ≡ Some c) p e))
   ]
   | inr other ↦ use-along w v u c (sym (o (owner u) other)) e
-])
+]) (links-with v w i a.links o l)
 
 -- ---- how it changes
 

@@ -16,7 +16,7 @@ use Rattle.mq_inodes.specs.Opened.{cut_file}
 use Rattle.mq_inodes.proofs.ChangesInodes.{bare, bare-step}
 use Rattle.mq_inodes.proofs.LaidParts.{zeros-dir, zeros-file}
 use Rattle.mq_inodes.proofs.ChangesTaken.{IsFree, longer, with_indirect}
-use Rattle.mq_inodes.proofs.ChangesUses.{uses-fewer}
+use Rattle.mq_inodes.proofs.ChangesUses.{uses-fewer, links-at}
 use Rattle.mq_layout.specs.Places.{file_limit, inode_bitmap, inode_block, inodes_of}
 use Rattle.mq_layout.specs.Slots.{Entry}
 use Rattle.mq_tree.proofs.VolumeChanges.{kept-option, take-get}
@@ -24,6 +24,7 @@ use Rattle.mq_tree.specs.Free.{first_of, grown, one_more, order, pointed, with_b
 use Rattle.mq_tree.specs.Laid.{ShowsPart, inode_of, size_of}
 use Rattle.mq_tree.specs.Requests.{freed, resized, with_body}
 use Rattle.mq_tree.specs.Sound.{IsBody, IsNode, blocks_for}
+use Rattle.mq_tree.specs.Links.{HasLinks}
 use Rattle.mq_tree.specs.Volume.{Body, Free, File, Dir, Node, Volume, body, free_node, is_used, node, cut_node}
 use Rattle.mq_tree.proofs.Free.{first-not_taken, first-zones}
 use Rattle.mq_tree.proofs.FreeUses.{node-here, node-other}
@@ -52,37 +53,37 @@ next-dir x slots count is few = subst (λ y. ShowsPart y count zeros) (sym is) (
 
 -- ---- uses
 
-pub with_body-uses : (g : Geometry) (v : Volume) (i : ℕ) (y : Body) → AreUses g v → i < length v → AreUses g (with_body v i y)
-with_body-uses g v i y uses low =
+pub with_body-uses : (g : Geometry) (v : Volume) (i : ℕ) (y : Body) → AreUses g v → i < length v → HasLinks y (node v i).links → AreUses g (with_body v i y)
+with_body-uses g v i y uses low l =
     let here = node-here v i (rebodied (node v i) y) low in
-    kept-uses g v (with_body v i y) i uses (λ x other. node-other v i x (rebodied (node v i) y) other) (ap (λ (n : Node). n.blocks) here) (ap (λ (n : Node). n.indirect) here)
+    kept-uses g v (with_body v i y) i uses (λ x other. node-other v i x (rebodied (node v i) y) other) (ap (λ (n : Node). n.blocks) here) (ap (λ (n : Node). n.indirect) here) (links-at (with_body v i y) i (rebodied (node v i) y) here l)
 
 pub with_block-uses : (g : Geometry) (v : Volume) (i b : ℕ) → AreUses g v → i < length v → IsFree g v b → AreUses g (with_block v i (Some b))
 with_block-uses g v i b uses low f =
     let here = node-here v i (longer (node v i) b) low in
-    more-uses g v (with_block v i (Some b)) i b uses (λ x other. node-other v i x (longer (node v i) b) other) (ap (λ (n : Node). n.blocks) here) (ap (λ (n : Node). n.indirect) here) f.high f.home f.free
+    more-uses g v (with_block v i (Some b)) i b uses (λ x other. node-other v i x (longer (node v i) b) other) (ap (λ (n : Node). n.blocks) here) (ap (λ (n : Node). n.indirect) here) f.high f.home f.free (links-at (with_block v i (Some b)) i (longer (node v i) b) here (uses.links i))
 
 pub with_pointers-uses : (g : Geometry) (v : Volume) (i b : ℕ) → AreUses g v → i < length v → IsFree g v b → AreUses g (with_pointers v i (Some b))
 with_pointers-uses g v i b uses low f =
     let here = node-here v i (with_indirect (node v i) b) low in
-    pointed-uses g v (with_pointers v i (Some b)) i b uses (λ x other. node-other v i x (with_indirect (node v i) b) other) (ap (λ (n : Node). n.blocks) here) (ap (λ (n : Node). n.indirect) here) f.high f.home f.free
+    pointed-uses g v (with_pointers v i (Some b)) i b uses (λ x other. node-other v i x (with_indirect (node v i) b) other) (ap (λ (n : Node). n.blocks) here) (ap (λ (n : Node). n.indirect) here) f.high f.home f.free (links-at (with_pointers v i (Some b)) i (with_indirect (node v i) b) here (uses.links i))
 
 -- an inode without blocks, as a new one or one that was freed
-pub bare-uses : (g : Geometry) (v : Volume) (i : ℕ) (n : Node) → AreUses g v → i < length v → n.blocks ≡ [] → n.indirect ≡ None → AreUses g (set v i n)
-bare-uses g v i n uses low bs ind =
+pub bare-uses : (g : Geometry) (v : Volume) (i : ℕ) (n : Node) → AreUses g v → i < length v → n.blocks ≡ [] → n.indirect ≡ None → HasLinks n.body n.links → AreUses g (set v i n)
+bare-uses g v i n uses low bs ind l =
     let here = node-here v i n low in
     uses-fewer g v (set v i n) i uses (λ x other. node-other v i x n other) (λ k c e. absurd (none-some c (sym (ap (λ (m : Node). slice_get m.blocks k) here ∙ ap (λ (xs : List ℕ). slice_get xs k) bs) ∙ e)))
-    (λ c e. absurd (none-some c (sym (ap (λ (m : Node). m.indirect) here ∙ ind) ∙ e)))
+    (λ c e. absurd (none-some c (sym (ap (λ (m : Node). m.indirect) here ∙ ind) ∙ e))) (links-at (set v i n) i n here l)
 
 pub freed-uses : (g : Geometry) (v : Volume) (i : ℕ) → AreUses g v → i < length v → AreUses g (freed v i)
-freed-uses g v i uses low = bare-uses g v i free_node uses low refl refl
+freed-uses g v i uses low = bare-uses g v i free_node uses low refl refl refl
 
-pub cut-uses : (g : Geometry) (v : Volume) (i count : ℕ) (bytes : List ℕ) → AreUses g v → i < length v → AreUses g (cut_file v i count bytes)
-cut-uses g v i count bytes uses low =
+pub cut-uses : (g : Geometry) (v : Volume) (i count : ℕ) (bytes : List ℕ) → AreUses g v → i < length v → HasLinks (File bytes) (node v i).links → AreUses g (cut_file v i count bytes)
+cut-uses g v i count bytes uses low l =
     let n = cut_node (node v i) count bytes in
     let here = node-here v i n low in
     uses-fewer g v (set v i n) i uses (λ x other. node-other v i x n other) (λ k c e. take-get count (node v i).blocks k c (sym (ap (λ (m : Node). slice_get m.blocks k) here) ∙ e))
-    (λ c e. kept-option (nat_lt 12 count) (node v i).indirect c (sym (ap (λ (m : Node). m.indirect) here) ∙ e))
+    (λ c e. kept-option (nat_lt 12 count) (node v i).indirect c (sym (ap (λ (m : Node). m.indirect) here) ∙ e)) (links-at (set v i n) i n here l)
 
 -- ---- an inode that is free, or new
 
@@ -104,7 +105,7 @@ pub made-step : (g : Geometry) (v : Volume) (i : ℕ) (y : Body) (old mid new : 
     → Fits g old v → IsInodeMarked g old mid i true → IsInodePut g mid new i (inode_of (bare y)) → Stepped g v (set v i (bare y)) new (inode_bitmap g ∷ inode_block g i ∷ [])
 made-step g v i y old mid new uses low inside good is used few fits m p =
     let none = free-bare (node v i) good is in
-    bare-step g v i y old mid new uses low inside none.0 none.1 (bare-form y used few) fits (subst (λ t. IsInodeMarked g old mid i t) (sym used) m) p
+    bare-step g v i y old mid new uses low inside none.0 none.1 used (bare-form y used few) fits (subst (λ t. IsInodeMarked g old mid i t) (sym used) m) p
 
 -- ---- one change behind another
 
@@ -132,8 +133,8 @@ pub resized-grown : (g : Geometry) (q : ℕ) (v u : Volume) (i : ℕ) (bytes : L
     → is_some (node u i).indirect ≡ nat_lt 12 (blocks_for (length bytes)) → resized g q v i bytes ≡ with_body u i (File bytes)
 resized-grown g q v u i bytes is count indirect =
     ap (λ (x : Volume). cut_file x i (blocks_for (length bytes)) bytes) (sym is)
-    ∙ ap (λ (xs : List ℕ). set u i (record { body = File bytes; blocks = xs; indirect = if nat_lt 12 (blocks_for (length bytes)) then (node u i).indirect else None })) (take_all (blocks_for (length bytes)) (node u i).blocks (omega arith))
-    ∙ ap (λ (o : Option ℕ). set u i (record { body = File bytes; blocks = (node u i).blocks; indirect = o })) (kept (nat_lt 12 (blocks_for (length bytes))) (node u i).indirect indirect)
+    ∙ ap (λ (xs : List ℕ). set u i (record { body = File bytes; blocks = xs; indirect = if nat_lt 12 (blocks_for (length bytes)) then (node u i).indirect else None; links = (node u i).links })) (take_all (blocks_for (length bytes)) (node u i).blocks (omega arith))
+    ∙ ap (λ (o : Option ℕ). set u i (record { body = File bytes; blocks = (node u i).blocks; indirect = o; links = (node u i).links })) (kept (nat_lt 12 (blocks_for (length bytes))) (node u i).indirect indirect)
   where
     kept : (t : Bool) (o : Option ℕ) → is_some o ≡ t → cond t o None ≡ o
     kept true o e = refl

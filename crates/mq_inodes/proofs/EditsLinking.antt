@@ -24,7 +24,8 @@ use Rattle.mq_layout.specs.Fields.{zero_bytes}
 use Rattle.mq_layout.specs.Slots.{Entry, slot_bytes}
 use Rattle.mq_pages.specs.declared.page.Kind.TheVariants.{Meta}
 use Rattle.mq_tree.specs.Requests.{cleared, linked, unlinked, unused, with_body}
-use Rattle.mq_tree.specs.Volume.{Dir, Node, Volume, body, node, slot_number, slots_of}
+use Rattle.mq_tree.specs.Links.{HasLinks}
+use Rattle.mq_tree.specs.Volume.{Body, Dir, Node, Volume, body, node, slot_number, slots_of}
 use Rattle.mq_tree.proofs.RequestsNodes.{cleared-length}
 use Rattle.mq_tree.proofs.FreeUses.{node-here}
 
@@ -35,12 +36,12 @@ on_ok-both (Err e) p q f = tt
 -- ---- a block of a directory is put
 
 -- the directory has other slots over the same blocks
-pub becomes-slot : (g : Geometry) (v : Volume) (d place b : ℕ) (now : List (Option Entry)) (old new : Working) → Carries g (pages_of old) v → d < length v → slice_get (node v d).blocks place ≡ Some b → pages_of old b ≢ None → IsKindPut old new b (Some Meta)
+pub becomes-slot : (g : Geometry) (v : Volume) (d place b : ℕ) (now : List (Option Entry)) (old new : Working) → Carries g (pages_of old) v → d < length v → HasLinks (Dir now) (node v d).links → slice_get (node v d).blocks place ≡ Some b → pages_of old b ≢ None → IsKindPut old new b (Some Meta)
     → Stepped g v (with_body v d (Dir now)) (pages_of new) (b ∷ []) → Becomes g v (with_body v d (Dir now)) old new
-becomes-slot g v d place b now old new c low there known kind s =
+becomes-slot g v d place b now old new c low one there known kind s =
     let w = with_body v d (Dir now) in
     let here = node-here v d (rebodied (node v d) (Dir now)) low in
-    let fine = with_body-uses g v d (Dir now) c.uses low in
+    let fine = with_body-uses g v d (Dir now) c.uses low one in
     let at : slice_get (node w d).blocks place ≡ Some b = ap (λ (n : Node). slice_get n.blocks place) here ∙ there in
     becomes-stepped g v w old new (b ∷ []) c fine (length-set v d (rebodied (node v d) (Dir now))) s
     (λ x y none. known (ap (λ (z : ℕ). pages_of old z) (sym (among-one b x y)) ∙ none))
@@ -83,7 +84,7 @@ name-unlinked g v d name blocks slot b old new c m dirs found is kind t = record
         let inside : place < length blocks = (let l = r.inside in let n = m.size in omega arith) in
         let there : slice_get (node v d).blocks place ≡ Some b = ap (λ (bs : List ℕ). slice_get bs place) (sym m.blocks_are) ∙ slice_get-get_or blocks place b inside ∙ ap (λ (x : ℕ). Some x) (sym is) in
         let step = unlinked-step g v d slot b r.entry.inode name m.slots r.entry (pages_of old) (pages_of new) t.before t.after c.uses low m.is m.apart r.finds (ap (λ (k : ℕ). get_or m.slots k None) (sym at) ∙ r.there) r.named there c.fits t.was t.put t.form t.is in
-        becomes-slot g v d place b (cleared name (slots_of (body v d))) old new c low there (λ none. none-some _ (sym none ∙ t.was)) kind step
+        becomes-slot g v d place b (cleared name (slots_of (body v d))) old new c low (subst (λ (x : Body). HasLinks x (node v d).links) m.is (c.uses.links d)) there (λ none. none-some _ (sym none ∙ t.was)) kind step
 
     w : Volume
     w = unlinked v d name
@@ -122,5 +123,5 @@ name-linked g q v o entry picks slot b old new c m dirs found is kind t =
     let inside : slot < length m.slots = (let l = unused-low 0 slot m.slots (sym first) in omega arith) in
     let there : slice_get (node v d).blocks (slot / 15) ≡ Some b = ap (λ (bs : List ℕ). slice_get bs (slot / 15)) (sym m.opened.blocks) ∙ slice_get-get_or blocks (slot / 15) b (omega arith) ∙ ap (λ (x : ℕ). Some x) (sym is) in
     let step = entry-step g v d slot b m.slots entry (pages_of old) (pages_of new) t.before t.after c.uses low m.is inside there m.form c.fits t.was t.put t.form t.is in
-    let becomes = becomes-slot g v d (slot / 15) b (set m.slots slot (Some entry)) old new c low there (λ none. none-some _ (sym none ∙ t.was)) kind step in
+    let becomes = becomes-slot g v d (slot / 15) b (set m.slots slot (Some entry)) old new c low (subst (λ (x : Body). HasLinks x (node v d).links) m.is (c.uses.links d)) there (λ none. none-some _ (sym none ∙ t.was)) kind step in
     subst (λ (x : Volume). Becomes g v x old new) (sym (linked-here g q v d slot m.slots entry m.is first)) becomes

@@ -29,7 +29,7 @@ use Rattle.mq_pages.specs.declared.page.Kind.{Kind}
 use Rattle.mq_pages.specs.declared.page.Kind.TheVariants.{Data, Meta}
 use Rattle.mq_tree.proofs.CleanLaid.{length-padded}
 use Rattle.mq_tree.specs.Free.{with_block, with_pointers}
-use Rattle.mq_tree.specs.Laid.{ShowsPart, inode_of, kind_of, links_of, or_zero, padded, size_of}
+use Rattle.mq_tree.specs.Laid.{ShowsPart, inode_of, kind_of, or_zero, padded, size_of}
 use Rattle.mq_tree.specs.Volume.{Body, Free, File, Dir, Node, Part, Pointers, Volume, block_in, body, is_used, node}
 use Rattle.mq_tree.proofs.FreeUses.{node-here}
 use Rattle.mq_tree.specs.Uses.{AreUses}
@@ -124,8 +124,8 @@ direct-more xs b = elim (cases_lt (length xs) 12) [
 
 longer-is : (n : Node) (b : ℕ) → inode_of (longer n b) ≡ longer_inode (inode_of n) (length n.blocks) b
 longer-is n b =
-    ap (λ (xs : List ℕ). record { kind = kind_of n.body; links = links_of n.body; size = size_of n.body (length (n.blocks ++ b ∷ [])); direct = xs; indirect = or_zero n.indirect }) (direct-more n.blocks b)
-    ∙ ap (λ (s : ℕ). record { kind = kind_of n.body; links = links_of n.body; size = s; direct = if nat_lt (length n.blocks) 12 then set (padded 12 n.blocks) (length n.blocks) b else padded 12 n.blocks; indirect = or_zero n.indirect })
+    ap (λ (xs : List ℕ). record { kind = kind_of n.body; links = n.links; size = size_of n.body (length (n.blocks ++ b ∷ [])); direct = xs; indirect = or_zero n.indirect }) (direct-more n.blocks b)
+    ∙ ap (λ (s : ℕ). record { kind = kind_of n.body; links = n.links; size = s; direct = if nat_lt (length n.blocks) 12 then set (padded 12 n.blocks) (length n.blocks) b else padded 12 n.blocks; indirect = or_zero n.indirect })
     (ap (λ (c : ℕ). size_of n.body c) (length-append n.blocks (b ∷ [])) ∙ size-more n.body (length n.blocks))
 
 file-size : (x : Body) (count : ℕ) → kind_of x ≢ 2 → size_of x count ≡ size_of x (count + 1)

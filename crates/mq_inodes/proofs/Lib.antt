@@ -16,6 +16,7 @@ pub mod ChangesSteps
 pub mod ChangesTaken
 pub mod ChangesUses
 pub mod ChangesVolumes
+pub mod Counted
 pub mod Differences
 pub mod Dirs
 pub mod DirsEntries

@@ -30,6 +30,7 @@ use Rattle.mq_pages.specs.declared.page.Kind.TheVariants.{Meta}
 use Rattle.mq_tree.proofs.DecodedMounting.{zeros-page}
 use Rattle.mq_tree.specs.Free.{free_blocks, grown, needs, order}
 use Rattle.mq_tree.specs.Requests.{entry_needs, link_needs, linked, unused}
+use Rattle.mq_tree.specs.Links.{HasLinks}
 use Rattle.mq_tree.specs.Volume.{Body, Dir, Part, Volume, body, is_taken, node, slots_of}
 use Rattle.mq_tree.proofs.Free.{count-order}
 use Rattle.mq_tree.proofs.FreeUses.{IsGrown, grown-is}
@@ -138,7 +139,7 @@ name-grown g q v before after entry picks b old mid new m c none over h at kind 
     let blank = k.blank b at in
     let was : t.before ≡ zeros = same_Some _ _ (same_Some _ _ (sym t.was ∙ blank)) in
     let step = block_entry-step g u d b m.slots entry (pages_of mid) (pages_of new) t.after h.becomes.carries.uses k.low k.is count m.size there m.form h.becomes.carries.fits blank t.put t.form (t.is ∙ ap (λ (p : List ℕ). written p 0 (slot_bytes entry)) was) in
-    let becomes = becomes-slot g u d count b (with_entry m.slots entry) mid new h.becomes.carries k.low there (λ absent. none-some _ (sym absent ∙ blank)) kind step in
+    let becomes = becomes-slot g u d count b (with_entry m.slots entry) mid new h.becomes.carries k.low (subst (λ (x : Body). HasLinks x (node u d).links) k.is (h.becomes.carries.uses.links d)) there (λ absent. none-some _ (sym absent ∙ blank)) kind step in
     subst (λ (x : Volume). Becomes g v x old new) (sym (linked-grown g q v u d m.slots entry m.is none refl)) (becomes-then g v u _ old mid new over h.becomes becomes)
 
 -- ---- where no slot of its blocks is unused

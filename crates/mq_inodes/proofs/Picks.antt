@@ -163,7 +163,7 @@ pointers-more v i b low none =
 
 -- with an inode more that has it
 abbrev fuller : Volume → ℕ → Volume
-fuller v b = record { body = Free; blocks = b ∷ []; indirect = None } ∷ v
+fuller v b = record { body = Free; blocks = b ∷ []; indirect = None; links = 0 } ∷ v
 
 fuller-more : (v : Volume) (b : ℕ) → IsTakenMore v (fuller v b) b
 fuller-more v b = record {

@@ -34,7 +34,8 @@ use Rattle.mq_layout.specs.declared.inode.Inode.{Inode}
 use Rattle.mq_pages.specs.declared.page.Kind.{Kind}
 use Rattle.mq_pages.specs.declared.page.Kind.TheVariants.{Data, Meta}
 use Rattle.mq_tree.proofs.CleanLaid.{inode-parts, length-padded}
-use Rattle.mq_tree.specs.Laid.{inode_of, kind_of, links_of, or_zero, padded, size_of}
+use Rattle.mq_tree.specs.Laid.{inode_of, kind_of, or_zero, padded, size_of}
+use Rattle.mq_tree.specs.Links.{HasLinks}
 use Rattle.mq_tree.specs.Volume.{Body, File, Node, Part, Pointers, Volume, body, has_block, is_used, node, cut_node}
 use Rattle.mq_tree.proofs.FreeUses.{node-here}
 use Rattle.mq_tree.specs.Uses.{AreUses}
@@ -45,7 +46,7 @@ use Rattle.mq_tree.proofs.LaidUses.{use-has}
 
 cut-inode : (n : Node) (count : ℕ) (bytes now : List ℕ) (old new : Inode) → n.body ≡ File bytes → old ≡ inode_of n → IsCutInode old new count (length now) → new ≡ inode_of (cut_node n count now)
 cut-inode n count bytes now old new is opened c =
-    inode-parts new (inode_of (cut_node n count now)) (c.kind ∙ ap (λ (x : Inode). x.kind) opened ∙ ap kind_of is) (c.links ∙ ap (λ (x : Inode). x.links) opened ∙ ap links_of is) c.size_is (same_lists _ _ (t ∙ sym m) same)
+    inode-parts new (inode_of (cut_node n count now)) (c.kind ∙ ap (λ (x : Inode). x.kind) opened ∙ ap kind_of is) (c.links ∙ ap (λ (x : Inode). x.links) opened) c.size_is (same_lists _ _ (t ∙ sym m) same)
     (c.indirect ∙ ap (λ (x : Inode). if nat_lt 12 count then x.indirect else 0) opened ∙ either (nat_lt 12 count) n.indirect)
   where
     t : length new.direct ≡ 12
@@ -116,7 +117,7 @@ cut-form g pages v o count bytes now inode carries may says =
     let inside = opened-inside g pages v o carries may.opened in
     let here : node w i ≡ cut_node (node v i) count now = node-here v i (cut_node (node v i) count now) inside in
     let is_file : body w i ≡ File now = ap (λ (m : Node). m.body) here in
-    let good = inode-form g w i (cut-uses g v i count now carries.uses inside) (ap is_used is_file) (subst (λ (x : Body). size_of x (length (node w i).blocks) ≤ file_limit) (sym is_file) may.size) in
+    let good = inode-form g w i (cut-uses g v i count now carries.uses inside (subst (λ (x : Body). HasLinks x (node v i).links) may.is (carries.uses.links i))) (ap is_used is_file) (subst (λ (x : Body). size_of x (length (node w i).blocks) ≤ file_limit) (sym is_file) may.size) in
     subst IsInode (ap inode_of here ∙ sym (cut-inode (node v i) count bytes now o.inode inode may.is may.opened.inode says)) good
 
 -- ---- the volume
@@ -166,7 +167,7 @@ becomes-cut v o count bytes now old mid next new inode h =
     inside = opened-inside g (pages_of old) v o h.carries opened
 
     fine : AreUses g w
-    fine = cut-uses g v i count now uses inside
+    fine = cut-uses g v i count now uses inside (subst (λ (x : Body). HasLinks x (node v i).links) h.may.is (uses.links i))
 
     here : node w i ≡ cut_node n count now
     here = node-here v i (cut_node n count now) inside

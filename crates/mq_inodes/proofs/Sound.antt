@@ -8,7 +8,7 @@ use Rattle.mq_tree.specs.Uses.{AreUses}
 use Rattle.mq_tree.proofs.SoundVolumes.{used-low as used-inside}
 
 pub sound-uses : (g : Geometry) (v : Volume) → IsSound g v → AreUses g v
-sound-uses g v sound = record { zones = sound.zones; apart = sound.apart }
+sound-uses g v sound = record { zones = sound.zones; apart = sound.apart; links = λ i. (sound.nodes i).links }
 
 pub used-low : (g : Geometry) (v : Volume) (i : ℕ) → IsSound g v → is_used (body v i) ≡ true → i < inodes_of g
 used-low g v i sound used = let l = used-inside v i used in let c = sound.count in omega arith

@@ -8,4 +8,4 @@ empty_body false = File []
 
 -- the volume with an inode more
 abbrev pub with_inode : Volume → ℕ → Body → Volume
-with_inode v i new = slice_set v i (record { body = new; blocks = []; indirect = None })
+with_inode v i new = slice_set v i (record { body = new; blocks = []; indirect = None; links = 1 })

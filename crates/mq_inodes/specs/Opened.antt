@@ -1,5 +1,5 @@
 -- Inodes that requests change: what is known of them, and what may be done.
-use Rattle.std.specs.Prelude.{◌≡◌, ◌≢◌, ◌≤◌, ◌<◌, ◌+◌, ◌*◌, ℕ, List, length, slice_index, slice_index_or, slice_set, Option, Some, None, is_some, nat_lt}
+use Rattle.std.specs.Prelude.{◌≡◌, ◌≢◌, ◌≤◌, ◌<◌, ◌+◌, ◌*◌, ◌^◌, ℕ, List, length, slice_index, slice_index_or, slice_set, Option, Some, None, is_some, nat_lt}
 use Rattle.mq_blocks.specs.Geometry.{queues_of}
 use Rattle.mq_blocks.specs.declared.geometry.Geometry.{Geometry}
 use Rattle.mq_inodes.specs.Edits.{Becomes}
@@ -8,6 +8,7 @@ use Rattle.mq_inodes.specs.Picks.{ArePicked, IsMarkable}
 use Rattle.mq_inodes.specs.declared.opened.Opened.{Opened}
 use Rattle.mq_inodes.specs.declared.working.Working.{Working}
 use Rattle.mq_layout.specs.Places.{file_limit, inodes_of}
+use Rattle.mq_layout.specs.declared.inode.Inode.{Inode}
 use Rattle.mq_layout.specs.Slots.{Entry, IsEntry}
 use Rattle.mq_tree.specs.Free.{grown, needs}
 use Rattle.mq_tree.specs.Laid.{inode_of}
@@ -96,3 +97,14 @@ pub record MayCut (g : Geometry) (v : Volume) (o : Opened) (count : ℕ) (bytes 
 
 abbrev pub cut_file : Volume → ℕ → (count : ℕ) → List ℕ → Volume
 cut_file v i count bytes = slice_set v i (cut_node (node v i) count bytes)
+
+-- ---- names
+
+-- A file may have this number of links.
+pub record MayCount (g : Geometry) (v : Volume) (i n : ℕ) (inode : Inode) : Type 0 where
+  pub low : i < inodes_of g
+  pub says : inode ≡ inode_of (node v i)
+  pub bytes : List ℕ
+  pub is : body v i ≡ File bytes
+  pub size : length bytes ≤ file_limit
+  pub few : (1 ≤ n) × (n < 2 ^ 16)

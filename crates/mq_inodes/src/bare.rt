@@ -16,7 +16,12 @@ use std::alloc::Global;
 
 /// The fields of an inode without blocks.
 fn empty_inode(is_directory: bool) -> Inode
-    ensures { result ≡ inode_of (record { body = empty_body is_directory; blocks = []; indirect = None }) }
+    ensures { result ≡ inode_of (record {
+      body = empty_body is_directory;
+      blocks = [];
+      indirect = None;
+      links = 1;
+    }) }
 {
     Inode {
         kind: if is_directory { DIRECTORY } else { 1 },

@@ -13,6 +13,7 @@ mod grow;
 mod inode;
 mod lack;
 mod link;
+mod links;
 mod opened;
 mod release;
 mod slots;

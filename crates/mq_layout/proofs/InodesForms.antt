@@ -1,7 +1,7 @@
 -- The bytes of an inode say it, and no field is refused, exactly where it is in its form.
 use Rattle.std.proofs.Common.{get_or, ◌≡◌, ℕ, ◌+◌, ◌*◌, ◌%◌, ◌^◌, ◌<◌, ◌≤◌, List, [], ◌∷◌, ◌++◌, length, drop, replicate, Bool, true, nat_eq, refl, sym, ap, subst, ◌∙◌, arith, lit<, length-append, inl, inr}
 use Rattle.std.specs.Prelude.{None, nat_le, if◌then◌else◌, ◌&&◌, ◌||◌}
-use Rattle.std.proofs.lemmas.Bool.{eqb-true, eq-eqb, leb-true, le-leb, cases_eq, ne_eqb}
+use Rattle.std.proofs.lemmas.Bool.{eq-eqb, leb-true, le-leb, cases_eq, ne_eqb}
 use Rattle.std.proofs.lemmas.Bool.Decides.{nat_tests}
 use Rattle.std.proofs.lemmas.List.{get_or_default, get_or-replicate, same_lists}
 use Rattle.std.specs.Int.{to_le_bytes, w16, w32, w64}
@@ -36,14 +36,20 @@ says-inode_at i p b s = rw (sym s.kind, sym s.links, sym s.size, sym s.direct, s
 
 -- ---- the tests
 
-links-free : (kind links : ℕ) → nat_eq links (if nat_eq kind 0 then 0 else 1) ≡ true → kind ≡ 0 → links ≡ 0
-links-free kind links h e = let t = eq-eqb kind 0 e in let x = eqb-true _ _ h in x ∙ ap (λ (c : Bool). if c then 0 else 1) t
+abbrev links_test : ℕ → ℕ → Bool
+links_test kind links = if nat_eq kind 0 then nat_eq links 0 else (nat_le 1 links && (nat_eq kind 1 || nat_eq links 1))
 
-links-used : (kind links : ℕ) → nat_eq links (if nat_eq kind 0 then 0 else 1) ≡ true → 1 ≤ kind → links ≡ 1
+links-free : (kind links : ℕ) → links_test kind links ≡ true → kind ≡ 0 → links ≡ 0
+links-free kind links h e = grind (arith, nat_tests)
+
+links-used : (kind links : ℕ) → links_test kind links ≡ true → 1 ≤ kind → 1 ≤ links
 links-used kind links h e = grind (arith, nat_tests)
 
-links-right : (kind links : ℕ) → (kind ≡ 0 → links ≡ 0) → (1 ≤ kind → links ≡ 1) → nat_eq links (if nat_eq kind 0 then 0 else 1) ≡ true
-links-right kind links free used = grind (arith, nat_tests)
+links-directory : (kind links : ℕ) → links_test kind links ≡ true → kind ≡ 2 → links ≡ 1
+links-directory kind links h e = grind (arith, nat_tests)
+
+links-right : (kind links : ℕ) → kind ≤ 2 → (kind ≡ 0 → links ≡ 0) → (1 ≤ kind → 1 ≤ links) → (kind ≡ 2 → links ≡ 1) → links_test kind links ≡ true
+links-right kind links k free used one = grind (arith, nat_tests)
 
 abbrev size_test : ℕ → ℕ → Bool
 size_test kind size = if nat_eq kind 0 then nat_eq size 0 else (nat_le size 4243456 && (nat_eq kind 1 || nat_eq (size % 4096) 0))
@@ -127,7 +133,8 @@ inode-good i p b small s none =
           let q = pointers-free i p b s (ap (λ (c : Bool). if c then nonzero 4 13 (p + 16) b else None) (sym yes) ∙ t.pointers) in
           (links-free i.kind i.links t.links e, size-free i.kind i.size t.size e, q.0, q.1);
       used = λ e. (links-used i.kind i.links t.links e, size-used i.kind i.size t.size e);
-      directory = λ e. size-directory i.kind i.size t.size e;
+      directory = λ e. (links-directory i.kind i.links t.links e, size-directory i.kind i.size t.size e);
+      links = let low = number_at-below 2 (p + 2) b small in let e = s.links in omega arith;
       twelve = ap length s.direct ∙ length-numbers 12 (drop (p + 16) b);
       direct = pointers-low i p b small s;
       indirect = let low = number_at-below 4 (p + 64) b small in let e = s.indirect in omega arith;
@@ -210,10 +217,7 @@ parts i p b twelve s =
     }
 
 links-low : (i : Inode) → IsInode i → i.links < 256 ^ 2
-links-low i good = elim (cases_eq i.kind 0) [
-  | inl e ↦ let h = (good.free e).0 in omega arith
-  | inr ne ↦ let h = (good.used (omega arith)).0 in omega arith
-]
+links-low i good = let h = good.links in omega arith
 
 size-low : (i : Inode) → IsInode i → i.size < 256 ^ 8
 size-low i good = elim (cases_eq i.kind 0) [
@@ -241,9 +245,9 @@ inode-right i p b good s =
     passed i p b (record {
       kind = le-leb _ _ good.kind;
       second = zeros-shown b (p + 1) 1 second;
-      links = links-right i.kind i.links (λ e. (good.free e).0) (λ e. (good.used e).0);
+      links = links-right i.kind i.links good.kind (λ e. (good.free e).0) (λ e. (good.used e).0) (λ e. (good.directory e).0);
       behind = zeros-shown b (p + 4) 4 t.behind;
-      size = size-right i.kind i.size good.kind (λ e. (good.free e).1) (λ e. (good.used e).1) good.directory;
+      size = size-right i.kind i.size good.kind (λ e. (good.free e).1) (λ e. (good.used e).1) (λ e. (good.directory e).1);
       pointers = elim (cases_eq i.kind 0) [
         | inl e ↦ let f = good.free e in let yes = eq-eqb i.kind 0 e in ap (λ (c : Bool). if c then nonzero 4 13 (p + 16) b else None) yes ∙ pointers-right i p b says f.2 f.3
         | inr ne ↦ let none = ne_eqb i.kind 0 ne in ap (λ (c : Bool). if c then nonzero 4 13 (p + 16) b else None) none

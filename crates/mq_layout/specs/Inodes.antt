@@ -10,13 +10,15 @@ use Rattle.mq_layout.specs.declared.inode.Inode.{Inode}
 use Rattle.mq_layout.specs.declared.refusal.LayoutCause.TheVariants.{Kind, Links, Size}
 use Rattle.mq_layout.specs.declared.refusal.LayoutRefusal.{LayoutRefusal}
 
--- A free inode is of kind 0, a file's of kind 1, a directory's of kind 2. A free one is all zeros.
--- Which pointers are 0 and which are not follows from the size, and is not said here.
+-- A free inode is of kind 0, a file's of kind 1, a directory's of kind 2. A free one is all zeros. A
+-- directory has one link. Which pointers are 0 and which are not follows from the size, and is not said
+-- here.
 pub record IsInode (i : Inode) : Type 0 where
   pub kind : i.kind ≤ 2
   pub free : i.kind ≡ 0 → (i.links ≡ 0) × (i.size ≡ 0) × (i.direct ≡ replicate 12 0) × (i.indirect ≡ 0)
-  pub used : 1 ≤ i.kind → (i.links ≡ 1) × (i.size ≤ file_limit)
-  pub directory : i.kind ≡ 2 → i.size % 4096 ≡ 0
+  pub used : 1 ≤ i.kind → (1 ≤ i.links) × (i.size ≤ file_limit)
+  pub directory : i.kind ≡ 2 → (i.links ≡ 1) × (i.size % 4096 ≡ 0)
+  pub links : i.links < 2 ^ 16
   pub twelve : length i.direct ≡ 12
   pub direct : All (λ p. p < 2 ^ 32) i.direct
   pub indirect : i.indirect < 2 ^ 32
@@ -40,8 +42,11 @@ inode_at from block = record {
   indirect = number_at 4 (from + 64) block;
 }
 
+-- a free inode has no link, a directory one, and a file at least one
 abbrev pub is_links : Inode → Bool
-is_links i = nat_eq i.links (if nat_eq i.kind 0 then 0 else 1)
+is_links i =
+    if nat_eq i.kind 0 then nat_eq i.links 0
+    else (nat_le 1 i.links && (nat_eq i.kind 1 || nat_eq i.links 1))
 
 -- the size of a free inode is 0, and a directory's is whole blocks
 abbrev pub is_size : Inode → Bool

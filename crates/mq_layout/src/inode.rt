@@ -73,7 +73,10 @@ fn pointers(block: &[u8], start: usize) -> [u32; 12]
 fn is_right_links(inode: &Inode) -> bool
     ensures { result ≡ is_links inode.now }
 {
-    inode.links == u16::from(inode.kind != 0)
+    if inode.kind == 0 {
+        return inode.links == 0;
+    }
+    1 <= inode.links && (inode.kind == 1 || inode.links == 1)
 }
 
 fn is_right_size(inode: &Inode) -> bool

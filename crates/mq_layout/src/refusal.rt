@@ -14,7 +14,7 @@ pub enum LayoutCause {
     Geometry,
     /// An inode is neither free nor a file nor a directory.
     Kind,
-    /// A used inode has not one link, or a free one has links.
+    /// A file has no link, a directory not one, or a free inode has links.
     Links,
     /// A size is above the limit, a directory's is not a multiple of the block size, or a free
     /// inode's is not 0.

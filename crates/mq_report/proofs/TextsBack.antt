@@ -12,7 +12,7 @@ use Rattle.mq_script.specs.declared.group.End.{End}
 use Rattle.mq_script.specs.declared.group.End.TheVariants.{Fsync, Fatomic, Ask}
 use Rattle.mq_block_text.proofs.TextNumbers.{own}
 use Rattle.mq_tree.specs.declared.request.Fault.{Fault}
-use Rattle.mq_tree.specs.declared.request.Fault.TheVariants.{NotFound, Exists, NotDir, IsDir, NotEmpty, BadName, TooBig, Subtree, NoSpace, NoInodes}
+use Rattle.mq_tree.specs.declared.request.Fault.TheVariants.{NotFound, Exists, NotDir, IsDir, NotEmpty, BadName, TooBig, Subtree, NoSpace, NoInodes, Links}
 use Rattle.mq_tree.specs.declared.request.Reply.{Reply}
 use Rattle.mq_tree.specs.declared.request.Reply.TheVariants.{Ok as Done, Data, Names, File as Size, Dir as Count, Refused}
 use Rattle.mq_report.specs.Lines.{Answer, Good, Large, Changes, Off, Failed, Home, Stopped, Memory, Line, Printed, answer_of, as_printed}
@@ -72,7 +72,8 @@ fault_back w =
     else (if nat_eq (fault_key w) (fault_key (codes "TooBig")) then TooBig
     else (if nat_eq (fault_key w) (fault_key (codes "Subtree")) then Subtree
     else (if nat_eq (fault_key w) (fault_key (codes "NoSpace")) then NoSpace
-    else NoInodes))))))))
+    else (if nat_eq (fault_key w) (fault_key (codes "NoInodes")) then NoInodes
+    else Links)))))))))
 
 fault-back : (f : Fault) → fault_back (fault_word f) ≡ f
 fault-back NotFound = refl
@@ -85,6 +86,7 @@ fault-back TooBig = refl
 fault-back Subtree = refl
 fault-back NoSpace = refl
 fault-back NoInodes = refl
+fault-back Links = refl
 
 abbrev pub rest : Words → Words
 rest [] = []

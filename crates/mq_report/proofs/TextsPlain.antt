@@ -15,7 +15,7 @@ use Rattle.mq_script.specs.declared.group.End.TheVariants.{Fsync, Fatomic, Ask}
 use Rattle.mq_block_text.proofs.TextNumbers.{own}
 use Rattle.mq_block_text.proofs.TextParts.{Avoids}
 use Rattle.mq_tree.specs.declared.request.Fault.{Fault}
-use Rattle.mq_tree.specs.declared.request.Fault.TheVariants.{NotFound, Exists, NotDir, IsDir, NotEmpty, BadName, TooBig, Subtree, NoSpace, NoInodes}
+use Rattle.mq_tree.specs.declared.request.Fault.TheVariants.{NotFound, Exists, NotDir, IsDir, NotEmpty, BadName, TooBig, Subtree, NoSpace, NoInodes, Links}
 use Rattle.mq_tree.specs.declared.request.Reply.{Reply}
 use Rattle.mq_tree.specs.declared.request.Reply.TheVariants.{Ok as Done, Data, Names, File as Size, Dir as Count, Refused}
 use Rattle.mq_report.specs.Lines.{Answer, Good, Large, Changes, Off, Failed, Home, Stopped, Memory, Line, answer_of}
@@ -113,6 +113,7 @@ fault-plain TooBig = plain-test (fault_word TooBig) refl
 fault-plain Subtree = plain-test (fault_word Subtree) refl
 fault-plain NoSpace = plain-test (fault_word NoSpace) refl
 fault-plain NoInodes = plain-test (fault_word NoInodes) refl
+fault-plain Links = plain-test (fault_word Links) refl
 
 letters-plain : (w : List ℕ) → list_all is_letter w ≡ true → IsPlain w
 letters-plain [] e = tt

@@ -21,6 +21,7 @@ fn fault_name(fault: Fault) -> &'static [u8]
         Fault::Subtree => b"Subtree",
         Fault::NoSpace => b"NoSpace",
         Fault::NoInodes => b"NoInodes",
+        Fault::Links => b"Links",
     }
 }
 

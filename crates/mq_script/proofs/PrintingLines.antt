@@ -8,7 +8,7 @@ use Rattle.std.proofs.lemmas.List.Splits.{slice_split_none, slice_split_at}
 use Rattle.mq_block_text.specs.Text.{hex_digit}
 use Rattle.mq_block_text.proofs.TextNumbers.{numeral_of}
 use Rattle.mq_tree.specs.declared.request.Request.{Request}
-use Rattle.mq_tree.specs.declared.request.Request.TheVariants.{Mkdir as make_mkdir, Create as make_create, Write as make_write, Truncate as make_truncate, Unlink as make_unlink, Rmdir as make_rmdir, Rename as make_rename, Read as make_read, List as make_list, Stat as make_stat}
+use Rattle.mq_tree.specs.declared.request.Request.TheVariants.{Mkdir as make_mkdir, Create as make_create, Write as make_write, Truncate as make_truncate, Unlink as make_unlink, Rmdir as make_rmdir, Rename as make_rename, Link as make_link, Read as make_read, List as make_list, Stat as make_stat}
 use Rattle.mq_tree.specs.Listings.{names_text, path_text}
 use Rattle.mq_script.specs.Answers.{and_then, made}
 use Rattle.mq_script.specs.Grammar.{is_letter, IsPath, IsRequest, AreBytes}
@@ -19,7 +19,7 @@ use Rattle.mq_script.specs.Words.{words_of, number_in, path_in, data_in}
 use Rattle.mq_script.specs.declared.line.Line.TheVariants.{Asks}
 use Rattle.mq_script.specs.declared.refusal.ScriptCause.TheVariants.{Arguments, Path, Number, Data}
 use Rattle.mq_script.specs.declared.verb.Verb.{Verb}
-use Rattle.mq_script.specs.declared.verb.Verb.TheVariants.{Mkdir, Create, Write, Truncate, Unlink, Rmdir, Rename, Read, List as ListOf, Stat}
+use Rattle.mq_script.specs.declared.verb.Verb.TheVariants.{Mkdir, Create, Write, Truncate, Unlink, Rmdir, Rename, Link, Read, List as ListOf, Stat}
 use Rattle.mq_script.proofs.WordsCutting.{is_space, rest_of_three}
 use Rattle.mq_script.proofs.WordsDigits.{number_again}
 use Rattle.mq_script.proofs.Lines.{line_plain}
@@ -132,6 +132,14 @@ rename_line p q is also =
     ∙ ap (λ o. made f (and_then (ok_or o Path) (λ x. and_then (ok_or (path_in (path_text q)) Path) (λ y. Ok (x, y))))) (path_again p is)
     ∙ ap (λ o. made f (and_then (ok_or o Path) (λ y. Ok (p, y)))) (path_again q also)
 
+link_line : (p q : List (List ℕ)) → IsPath p → IsPath q → line_in (request_text (make_link p q)) ≡ Ok (Asks (make_link p q))
+link_line p q is also =
+    let f = λ (x : List (List ℕ) × List (List ℕ)). Asks (make_link x.0 x.1) in
+    line_verb Link (codes "link") (path_text p ++ 32 ∷ path_text q) refl refl (after_path p (path_text q) is (path_plain q also))
+    ∙ ap (arguments_in Link) (two (path_text p) (path_text q) (path_visible p is) (path_visible q also))
+    ∙ ap (λ o. made f (and_then (ok_or o Path) (λ x. and_then (ok_or (path_in (path_text q)) Path) (λ y. Ok (x, y))))) (path_again p is)
+    ∙ ap (λ o. made f (and_then (ok_or o Path) (λ y. Ok (p, y)))) (path_again q also)
+
 read_line : (p : List (List ℕ)) (m n : ℕ) → IsPath p → m < 2 ^ 64 → n < 2 ^ 64 → line_in (request_text (make_read p m n)) ≡ Ok (Asks (make_read p m n))
 read_line p m n is small also =
     let f = λ (x : List (List ℕ) × ℕ × ℕ). Asks (make_read x.0 x.1 x.2) in
@@ -169,6 +177,7 @@ line_again (make_truncate p n) is = truncate_line p n is.0 is.1
 line_again (make_unlink p) is = one_path Unlink (codes "unlink") make_unlink p refl refl (λ ws. refl) is
 line_again (make_rmdir p) is = one_path Rmdir (codes "rmdir") make_rmdir p refl refl (λ ws. refl) is
 line_again (make_rename p q) is = rename_line p q is.0 is.1
+line_again (make_link p q) is = link_line p q is.0 is.1
 line_again (make_read p m n) is = read_line p m n is.0 is.1 is.2
 line_again (make_list p) is = one_path ListOf (codes "list") make_list p refl refl (λ ws. refl) is
 line_again (make_stat p) is = one_path Stat (codes "stat") make_stat p refl refl (λ ws. refl) is

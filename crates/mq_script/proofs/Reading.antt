@@ -6,7 +6,7 @@ use Rattle.std.proofs.Math.Seq.{take-append_seam, drop-append_seam}
 use Rattle.mq_block_text.specs.Refusals.{ended}
 use Rattle.mq_block_text.proofs.TextParts.{Avoids, split_of_join}
 use Rattle.mq_tree.specs.declared.request.Request.{Request}
-use Rattle.mq_tree.specs.declared.request.Request.TheVariants.{Mkdir, Create, Write, Truncate, Unlink, Rmdir, Rename, Read, List as ListOf, Stat}
+use Rattle.mq_tree.specs.declared.request.Request.TheVariants.{Mkdir, Create, Write, Truncate, Unlink, Rmdir, Rename, Link, Read, List as ListOf, Stat}
 use Rattle.mq_tree.specs.Listings.{path_text}
 use Rattle.mq_script.specs.Answers.{made}
 use Rattle.mq_script.specs.Grammar.{IsRequest, IsGroup, IsScript}
@@ -67,6 +67,7 @@ request_plain (Truncate p n) is = after_path p (decimal n) is.0 (number_plain n 
 request_plain (Unlink p) is = path_plain p is
 request_plain (Rmdir p) is = path_plain p is
 request_plain (Rename p q) is = after_path p (path_text q) is.0 (path_plain q is.1)
+request_plain (Link p q) is = after_path p (path_text q) is.0 (path_plain q is.1)
 request_plain (Read p m n) is = joined is_plain (path_text p ++ 32 ∷ decimal m) (32 ∷ decimal n) (after_path p (decimal m) is.0 (number_plain m is.1)) (number_plain n is.2)
 request_plain (ListOf p) is = path_plain p is
 request_plain (Stat p) is = path_plain p is

@@ -14,7 +14,7 @@ use Rattle.mq_block_text.specs.Refusals.{ended}
 use Rattle.mq_block_text.specs.Text.{hex_digit, hex_text}
 use Rattle.mq_block_text.proofs.TextParts.{split_some}
 use Rattle.mq_tree.specs.declared.request.Request.{Request}
-use Rattle.mq_tree.specs.declared.request.Request.TheVariants.{Mkdir as make_mkdir, Create as make_create, Write as make_write, Truncate as make_truncate, Unlink as make_unlink, Rmdir as make_rmdir, Rename as make_rename, Read as make_read, List as make_list, Stat as make_stat}
+use Rattle.mq_tree.specs.declared.request.Request.TheVariants.{Mkdir as make_mkdir, Create as make_create, Write as make_write, Truncate as make_truncate, Unlink as make_unlink, Rmdir as make_rmdir, Rename as make_rename, Link as make_link, Read as make_read, List as make_list, Stat as make_stat}
 use Rattle.mq_tree.specs.Listings.{names_text, path_text}
 use Rattle.mq_script.specs.Answers.{and_then, made, AgreesAt, Refused}
 use Rattle.mq_script.specs.Grammar.{is_letter, AreBytes, IsNumber, IsPath}
@@ -33,7 +33,7 @@ use Rattle.mq_script.specs.declared.refusal.ScriptCause.{ScriptCause}
 use Rattle.mq_script.specs.declared.refusal.ScriptCause.TheVariants.{Arguments, Bytes, Path, Number, Data, Size}
 use Rattle.mq_script.specs.declared.refusal.ScriptRefusal.{ScriptRefusal}
 use Rattle.mq_script.specs.declared.verb.Verb.{Verb}
-use Rattle.mq_script.specs.declared.verb.Verb.TheVariants.{Mkdir, Create, Write, Truncate, Unlink, Rmdir, Rename, Read, List as ListOf, Stat, Fsync, Fatomic, Ask}
+use Rattle.mq_script.specs.declared.verb.Verb.TheVariants.{Mkdir, Create, Write, Truncate, Unlink, Rmdir, Rename, Link, Read, List as ListOf, Stat, Fsync, Fatomic, Ask}
 use Rattle.mq_script.proofs.WordsCutting.{is_space}
 use Rattle.mq_script.proofs.WordsDigits.{byte_read}
 use Rattle.mq_script.proofs.PrintingLines.{is_visible}
@@ -406,6 +406,10 @@ args_is Rename words l all plain e =
     let m = made_of (λ x. asks (make_rename x.0 x.1)) (two_paths words) l e in
     let t = two_path_args words m.0 all m.1 in
     subst (λ (x : Line). SpellsLine x (join_with_byte 32 (codes "rename" ∷ words))) m.2 (t.0, t.1, ap (λ (ws : List (List ℕ)). join_with_byte 32 (codes "rename" ∷ ws)) t.2)
+args_is Link words l all plain e =
+    let m = made_of (λ x. asks (make_link x.0 x.1)) (two_paths words) l e in
+    let t = two_path_args words m.0 all m.1 in
+    subst (λ (x : Line). SpellsLine x (join_with_byte 32 (codes "link" ∷ words))) m.2 (t.0, t.1, ap (λ (ws : List (List ℕ)). join_with_byte 32 (codes "link" ∷ ws)) t.2)
 args_is Read words l all plain e =
     let m = made_of (λ x. asks (make_read x.0 x.1 x.2)) (a_path_and_two_numbers words) l e in
     let t = two_number_args words m.0 all m.1 in

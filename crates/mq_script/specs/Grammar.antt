@@ -2,7 +2,7 @@
 use Rattle.std.specs.Prelude.{◌≡◌, ◌≢◌, ◌<◌, ◌^◌, ℕ, Bool, true, ◌&&◌, ◌==◌, not, nat_le, List, [], ◌∷◌}
 use Rattle.std.specs.List.{AllByRecursion, list_all}
 use Rattle.mq_tree.specs.declared.request.Request.{Request}
-use Rattle.mq_tree.specs.declared.request.Request.TheVariants.{Mkdir, Create, Write, Truncate, Unlink, Rmdir, Rename, Read, List as ListOf, Stat}
+use Rattle.mq_tree.specs.declared.request.Request.TheVariants.{Mkdir, Create, Write, Truncate, Unlink, Rmdir, Rename, Link, Read, List as ListOf, Stat}
 use Rattle.mq_script.specs.Scripts.{Group, Script}
 
 -- a byte of a name: a visible character of ASCII, and no slash
@@ -28,6 +28,7 @@ IsRequest (Truncate p size) = IsPath p × IsNumber size
 IsRequest (Unlink p) = IsPath p
 IsRequest (Rmdir p) = IsPath p
 IsRequest (Rename p q) = IsPath p × IsPath q
+IsRequest (Link p q) = IsPath p × IsPath q
 IsRequest (Read p offset count) = IsPath p × IsNumber offset × IsNumber count
 IsRequest (ListOf p) = IsPath p
 IsRequest (Stat p) = IsPath p

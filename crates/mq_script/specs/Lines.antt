@@ -2,7 +2,7 @@
 use Rattle.std.specs.Prelude.{ℕ, Bool, ◌&&◌, nat_le, if◌then◌else◌, Option, Some, None, Result, Ok, Err, List, [], ◌∷◌}
 use Rattle.std.specs.List.{list_all}
 use Rattle.std.specs.Option.{ok_or}
-use Rattle.mq_tree.specs.declared.request.Request.TheVariants.{Mkdir as make_mkdir, Create as make_create, Write as make_write, Truncate as make_truncate, Unlink as make_unlink, Rmdir as make_rmdir, Rename as make_rename, Read as make_read, List as make_list, Stat as make_stat}
+use Rattle.mq_tree.specs.declared.request.Request.TheVariants.{Mkdir as make_mkdir, Create as make_create, Write as make_write, Truncate as make_truncate, Unlink as make_unlink, Rmdir as make_rmdir, Rename as make_rename, Link as make_link, Read as make_read, List as make_list, Stat as make_stat}
 use Rattle.mq_script.specs.Answers.{and_then, made}
 use Rattle.mq_script.specs.Verbs.{verb_in}
 use Rattle.mq_script.specs.Words.{words_of, one_of, two_of, three_of, rest_of, number_in, path_in, data_in}
@@ -13,7 +13,7 @@ use Rattle.mq_script.specs.declared.line.Line.TheVariants.{Asks, Ends}
 use Rattle.mq_script.specs.declared.refusal.ScriptCause.{ScriptCause}
 use Rattle.mq_script.specs.declared.refusal.ScriptCause.TheVariants.{Bytes, Verb as NoVerb, Arguments, Path, Number, Data}
 use Rattle.mq_script.specs.declared.verb.Verb.{Verb}
-use Rattle.mq_script.specs.declared.verb.Verb.TheVariants.{Mkdir, Create, Write, Truncate, Unlink, Rmdir, Rename, Read, List as ListOf, Stat, Fsync, Fatomic, Ask}
+use Rattle.mq_script.specs.declared.verb.Verb.TheVariants.{Mkdir, Create, Write, Truncate, Unlink, Rmdir, Rename, Link, Read, List as ListOf, Stat, Fsync, Fatomic, Ask}
 
 abbrev pub Answer : Type 0 → Type 0
 Answer A = Result A ScriptCause
@@ -62,6 +62,7 @@ arguments_in Truncate words = made (λ x. Asks (make_truncate x.0 x.1)) (a_path_
 arguments_in Unlink words = made (λ p. Asks (make_unlink p)) (a_path words)
 arguments_in Rmdir words = made (λ p. Asks (make_rmdir p)) (a_path words)
 arguments_in Rename words = made (λ x. Asks (make_rename x.0 x.1)) (two_paths words)
+arguments_in Link words = made (λ x. Asks (make_link x.0 x.1)) (two_paths words)
 arguments_in Read words = made (λ x. Asks (make_read x.0 x.1 x.2)) (a_path_and_two_numbers words)
 arguments_in ListOf words = made (λ p. Asks (make_list p)) (a_path words)
 arguments_in Stat words = made (λ p. Asks (make_stat p)) (a_path words)

@@ -3,7 +3,7 @@ use Rattle.std.specs.Prelude.{ℕ, Bool, ◌&&◌, ◌==◌, not, if◌then◌el
 use Rattle.std.specs.List.{list_all}
 use Rattle.mq_block_text.specs.Text.{hex_text}
 use Rattle.mq_tree.specs.declared.request.Request.{Request}
-use Rattle.mq_tree.specs.declared.request.Request.TheVariants.{Mkdir, Create, Write, Truncate, Unlink, Rmdir, Rename, Read, List as ListOf, Stat}
+use Rattle.mq_tree.specs.declared.request.Request.TheVariants.{Mkdir, Create, Write, Truncate, Unlink, Rmdir, Rename, Link, Read, List as ListOf, Stat}
 use Rattle.mq_tree.specs.Listings.{path_text}
 use Rattle.mq_script.specs.Lines.{is_plain}
 use Rattle.mq_script.specs.Scripts.{Group, Script}
@@ -32,6 +32,7 @@ request_text (Truncate p size) = codes "truncate " ++ path_text p ++ 32 ∷ deci
 request_text (Unlink p) = codes "unlink " ++ path_text p
 request_text (Rmdir p) = codes "rmdir " ++ path_text p
 request_text (Rename p q) = codes "rename " ++ path_text p ++ 32 ∷ path_text q
+request_text (Link p q) = codes "link " ++ path_text p ++ 32 ∷ path_text q
 request_text (Read p offset count) =
     codes "read " ++ path_text p ++ 32 ∷ decimal offset ++ 32 ∷ decimal count
 request_text (ListOf p) = codes "list " ++ path_text p

@@ -4,7 +4,7 @@ use Rattle.std.specs.List.{list_all}
 use Rattle.mq_block_text.specs.Refusals.{ended}
 use Rattle.mq_block_text.specs.Text.{hex_text}
 use Rattle.mq_tree.specs.declared.request.Request.{Request}
-use Rattle.mq_tree.specs.declared.request.Request.TheVariants.{Mkdir, Create, Write, Truncate, Unlink, Rmdir, Rename, Read, List as ListOf, Stat}
+use Rattle.mq_tree.specs.declared.request.Request.TheVariants.{Mkdir, Create, Write, Truncate, Unlink, Rmdir, Rename, Link, Read, List as ListOf, Stat}
 use Rattle.mq_tree.specs.Listings.{path_text}
 use Rattle.mq_script.specs.Grammar.{AreBytes, IsNumber, IsPath}
 use Rattle.mq_script.specs.Printing.{is_quotable, pairs_text, request_text}
@@ -52,6 +52,7 @@ Asks line (Truncate p size) = IsPath p × IsNumber size × (line ≡ request_tex
 Asks line (Unlink p) = IsPath p × (line ≡ request_text (Unlink p))
 Asks line (Rmdir p) = IsPath p × (line ≡ request_text (Rmdir p))
 Asks line (Rename p q) = IsPath p × IsPath q × (line ≡ request_text (Rename p q))
+Asks line (Link p q) = IsPath p × IsPath q × (line ≡ request_text (Link p q))
 Asks line (Read p offset count) =
     IsPath p × IsNumber offset × IsNumber count × (line ≡ request_text (Read p offset count))
 Asks line (ListOf p) = IsPath p × (line ≡ request_text (ListOf p))

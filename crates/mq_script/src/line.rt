@@ -115,6 +115,10 @@ fn read_arguments(alloc: Global, verb: Verb, rest: Option<&[u8]>) -> Result<Line
             let (from, to) = read_two_paths(alloc, rest)?;
             Request::Rename(from, to)
         }
+        Verb::Link => {
+            let (from, to) = read_two_paths(alloc, rest)?;
+            Request::Link(from, to)
+        }
         Verb::Read => {
             let (path, offset, count) = read_path_and_numbers(alloc, rest)?;
             Request::Read(path, offset, count)

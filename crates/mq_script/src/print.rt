@@ -116,6 +116,10 @@ fn put_request(out: &mut Vec<u8>, request: &Request) -> Result<(), OutOfMemory>
             put_verb(out, b"rename ", from)?;
             put_verb(out, b" ", to)
         }
+        Request::Link(from, to) => {
+            put_verb(out, b"link ", from)?;
+            put_verb(out, b" ", to)
+        }
         Request::Read(path, offset, count) => {
             put_verb(out, b"read ", path)?;
             put_number(out, *offset)?;

@@ -42,7 +42,7 @@ const CASES: [(Part, usize, u8, LayoutCause, u32); 20] = [
     (Part::Superblock, 4095, 1, LayoutCause::Zero, 4095),
     (Part::File, 256, 3, LayoutCause::Kind, 256),
     (Part::File, 256, 2, LayoutCause::Size, 264),
-    (Part::File, 259, 1, LayoutCause::Links, 258),
+    (Part::File, 258, 0, LayoutCause::Links, 258),
     (Part::File, 261, 1, LayoutCause::Zero, 261),
     (Part::File, 266, 0x41, LayoutCause::Size, 264),
     (Part::File, 383, 1, LayoutCause::Zero, 383),

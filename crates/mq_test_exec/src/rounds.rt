@@ -46,18 +46,47 @@ fn rounds_on(
     Ok(None)
 }
 
-// The same where the blocks have a tree.
+// The same where the blocks have a tree, and of which blocks it makes the pages known.
+fn rounds_over(
+    alloc: Global,
+    geometry: Geometry,
+    blocks: &[Option<Block>],
+    known: &mut [bool],
+    requests: &[Request],
+) -> Result<Option<u32>, OutOfMemory> {
+    let Ok(tree) = mount(alloc, geometry, blocks) else {
+        return Ok(None);
+    };
+    rounds_on(alloc, geometry, blocks, &tree, known, requests)
+}
+
+// The same where no page is known before.
 fn rounds(
     alloc: Global,
     geometry: Geometry,
     blocks: &[Option<Block>],
     requests: &[Request],
 ) -> Result<Option<u32>, OutOfMemory> {
-    let Ok(tree) = mount(alloc, geometry, blocks) else {
-        return Ok(None);
-    };
     let mut known = vec![in alloc; false; geometry.homes() as usize]?;
-    rounds_on(alloc, geometry, blocks, &tree, &mut known, requests)
+    rounds_over(alloc, geometry, blocks, &mut known, requests)
+}
+
+// The blocks for whose pages a group asks, in rising order.
+fn asked(
+    alloc: Global,
+    geometry: Geometry,
+    blocks: &[Option<Block>],
+    requests: &[Request],
+) -> Result<Vec<u32>, OutOfMemory> {
+    let mut known = vec![in alloc; false; geometry.homes() as usize]?;
+    rounds_over(alloc, geometry, blocks, &mut known, requests)?;
+    let mut asked = Vec::new(alloc);
+    for b in 0..geometry.homes() {
+        if known.get(b as usize).copied().unwrap_or(false) {
+            asked.push(b)?;
+        }
+    }
+    Ok(asked)
 }
 
 // What a request reads.
@@ -130,5 +159,27 @@ fn a_long_group_asks_for_what_it_makes_at_once(rt: HostRuntime) -> Result<(), Ou
         requests.push(Request::Create(path_of(alloc, &[name])?))?;
     }
     assert_eq!(rt; rounds(alloc, geometry, &blocks, &requests)?, Some(4));
+    Ok(())
+}
+
+// The names of a file stand in the root, in block 4, and its links in block 3. With the last name go its
+// blocks, too, which the bitmaps 1 and 2 mark.
+#[test]
+fn names_of_a_file_need_no_bitmap(rt: HostRuntime) -> Result<(), OutOfMemory> {
+    let alloc = rt.alloc();
+    let geometry = Geometry::new(1, 1024, 4, 18).ok().expect(&rt, "a geometry");
+    let blocks = small_blocks(alloc, geometry)?;
+    let linked = [Request::Link(path_of(alloc, b"a")?, path_of(alloc, b"c")?)];
+    let both: [u32; 2] = [3, 4];
+    let asked_by_link = asked(alloc, geometry, &blocks, &linked)?;
+    assert!(rt; asked_by_link.as_slice() == both.as_slice());
+    let unlinked = [
+        Request::Link(path_of(alloc, b"a")?, path_of(alloc, b"c")?),
+        Request::Unlink(path_of(alloc, b"a")?),
+    ];
+    let asked_by_unlink = asked(alloc, geometry, &blocks, &unlinked)?;
+    assert!(rt; asked_by_unlink.as_slice() == both.as_slice());
+    let gone = [Request::Unlink(path_of(alloc, b"a")?)];
+    assert_eq!(rt; asked(alloc, geometry, &blocks, &gone)?.len(), 18);
     Ok(())
 }

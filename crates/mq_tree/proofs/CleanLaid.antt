@@ -1,6 +1,6 @@
 -- The volume that clean blocks say lies on their map.
 use Rattle.std.proofs.Common.{◌≡◌, ℕ, zero, suc, ◌+◌, ◌-◌, ◌*◌, ◌/◌, ◌%◌, ◌<◌, ◌≤◌, List, [], ◌∷◌, length, replicate, Bool, true, false, cond, refl, sym, ap, subst, ◌∙◌, arith, inl, inr}
-use Rattle.std.specs.Prelude.{Some, None, is_some, nat_lt, slice_index, if◌then◌else◌, ◌&&◌}
+use Rattle.std.specs.Prelude.{Option, Some, None, is_some, nat_lt, slice_index, if◌then◌else◌, ◌&&◌}
 use Rattle.std.proofs.lemmas.Bool.{cases_eq, cases_lt, eq-eqb, eqb-true, false_from_ne_true, le-ltb, lt-ltb, true≢false}
 use Rattle.std.proofs.lemmas.List.{get_or_default, same_lists, length-replicate, get_or-replicate}
 use Rattle.std.proofs.Math.Nat.{mul-le-mul_right}
@@ -11,15 +11,16 @@ use Rattle.mq_layout.specs.Bits.{bit_of, pointer_of}
 use Rattle.mq_layout.specs.Empty.{free_inode}
 use Rattle.mq_layout.specs.Inodes.{IsInode, ShowsInode}
 use Rattle.mq_layout.specs.Places.{inode_bitmap, inodes_of, table_first, zone_bitmap}
-use Rattle.mq_layout.specs.Slots.{ShowsSlot}
+use Rattle.mq_layout.specs.Slots.{Entry, ShowsSlot}
 use Rattle.mq_layout.specs.declared.inode.Inode.{Inode}
 use Rattle.mq_layout.proofs.EmptyLaws.{zeros-free}
 use Rattle.mq_tree.specs.Clean.{HasPointers, IsClean, IsDirBlock, IsInZone}
 use Rattle.mq_tree.specs.Decoded.{Stored, body_of, byte_of, count_of, entry_of, node_of, part, pointer_to, slot_of, table_of, the_inode, volume_in}
 use Rattle.mq_tree.specs.Empty.{ArePages}
-use Rattle.mq_tree.specs.Laid.{IsLaid, InodeMarks, ShowsPage, ShowsPart, ShowsPointers, ShowsRegion, ShowsTable, ShowsUse, ShowsZone, Table, inode_of, kind_of, links_of, map_of, or_zero, padded, region, size_of, zone_block}
+use Rattle.mq_tree.specs.Laid.{IsLaid, InodeMarks, ShowsPage, ShowsPart, ShowsPointers, ShowsRegion, ShowsTable, ShowsUse, ShowsZone, Table, inode_of, kind_of, map_of, or_zero, padded, region, size_of, zone_block}
 use Rattle.mq_tree.specs.Sound.{AreBytes, AreEntries, IsBody, IsNode, IsSound, blocks_for}
-use Rattle.mq_tree.specs.Volume.{Body, File, Dir, Node, Use, Part, Pointers, block_in, body, free_node, is_taken, node}
+use Rattle.mq_tree.specs.Links.{HasLinks, links_to}
+use Rattle.mq_tree.specs.Volume.{Body, Free, File, Dir, Node, Use, Part, Pointers, block_in, body, free_node, is_taken, node}
 use Rattle.mq_tree.proofs.Decoded.{body-dir, body-file, body-free, body-in, indirect-found, length-table, length-volume, node-in, node-past, part-found, pointer-far, pointer-near, table-at, table-past, taken-use}
 use Rattle.mq_tree.proofs.LaidMaps.{mapped, unmapped, zone-low, zone-place, zone-rest}
 use Rattle.mq_tree.proofs.LaidRegions.{region-inode_marks, region-marks, region-table, region-zone}
@@ -86,28 +87,39 @@ some-cond : (t : Bool) (x : ℕ) → is_some (cond t (Some x) None) ≡ t
 some-cond true x = refl
 some-cond false x = refl
 
+fit-links : (g : Geometry) (s : Stored) (n : Inode) → Fits g s n → HasLinks (body_of s n) n.links
+fit-links g s n f = elim (kinds n.kind f.form.kind) [
+  | free e ↦ subst (λ b. HasLinks b n.links) (sym (body-free s n e)) (f.form.free e).0
+  | file e ↦
+      let good : HasLinks (File (table_of n.size (byte_of s n))) n.links = ((f.form.used (omega arith)).0, f.form.links) in
+      subst (λ b. HasLinks b n.links) (sym (body-file s n e)) good
+  | dir e ↦
+      let good : HasLinks (Dir (table_of (15 * count_of n) (entry_of s n))) n.links = (f.form.directory e).0 in
+      subst (λ b. HasLinks b n.links) (sym (body-dir s n e)) good
+]
+
 fit-node : (g : Geometry) (s : Stored) (n : Inode) → Fits g s n → IsNode (node_of s n)
 fit-node g s n f =
     let l = length-table (count_of n) (pointer_to s n) in
     record {
       body = subst (λ c. IsBody (body_of s n) c) (sym l) (fit-body g s n f);
       indirect = some-cond (nat_lt 12 (count_of n)) n.indirect ∙ ap (λ (c : ℕ). nat_lt 12 c) (sym l);
+      links = fit-links g s n f;
     }
 
 free-good : IsNode free_node
-free-good = record { body = refl; indirect = refl }
+free-good = record { body = refl; indirect = refl; links = refl }
 
 -- what the volume says of the inode is what was read
-says-kind : (g : Geometry) (s : Stored) (n : Inode) → Fits g s n → (kind_of (body_of s n) ≡ n.kind) × (links_of (body_of s n) ≡ n.links) × (size_of (body_of s n) (count_of n) ≡ n.size)
+says-kind : (g : Geometry) (s : Stored) (n : Inode) → Fits g s n → (kind_of (body_of s n) ≡ n.kind) × (size_of (body_of s n) (count_of n) ≡ n.size)
 says-kind g s n f = elim (kinds n.kind f.form.kind) [
-  | free e ↦ let b = body-free s n e in let r = f.form.free e in (ap kind_of b ∙ sym e, ap links_of b ∙ sym r.0, ap (λ (x : Body). size_of x (count_of n)) b ∙ sym r.1)
-  | file e ↦ let b = body-file s n e in let r = f.form.used (omega arith) in (ap kind_of b ∙ sym e, ap links_of b ∙ sym r.0, ap (λ (x : Body). size_of x (count_of n)) b ∙ length-table n.size (byte_of s n))
+  | free e ↦ let b = body-free s n e in let r = f.form.free e in (ap kind_of b ∙ sym e, ap (λ (x : Body). size_of x (count_of n)) b ∙ sym r.1)
+  | file e ↦ let b = body-file s n e in (ap kind_of b ∙ sym e, ap (λ (x : Body). size_of x (count_of n)) b ∙ length-table n.size (byte_of s n))
   | dir e ↦
       let b = body-dir s n e in
-      let r = f.form.used (omega arith) in
-      let w = f.form.directory e in
+      let w = (f.form.directory e).1 in
       let size : 4096 * count_of n ≡ n.size = omega arith in
-      (ap kind_of b ∙ sym e, ap links_of b ∙ sym r.0, ap (λ (x : Body). size_of x (count_of n)) b ∙ size)
+      (ap kind_of b ∙ sym e, ap (λ (x : Body). size_of x (count_of n)) b ∙ size)
 ]
 
 pub length-padded : (n : ℕ) (xs : List ℕ) → length (padded n xs) ≡ n
@@ -143,7 +155,7 @@ inode-says : (g : Geometry) (s : Stored) (n : Inode) → Fits g s n → inode_of
 inode-says g s n f =
     let k = says-kind g s n f in
     let l = length-table (count_of n) (pointer_to s n) in
-    inode-parts (inode_of (node_of s n)) n k.0 k.1 (ap (λ (c : ℕ). size_of (body_of s n) c) l ∙ k.2) (says-direct g s n f) (says-indirect g s n f)
+    inode-parts (inode_of (node_of s n)) n k.0 refl (ap (λ (c : ℕ). size_of (body_of s n) c) l ∙ k.1) (says-direct g s n f) (says-indirect g s n f)
 
 -- ---- parts
 
@@ -209,6 +221,28 @@ use-shows g s (Pointers i) b pages clean e =
     let same : (node_of s n).blocks ≡ (node (volume_in g s) i).blocks = ap (λ (m : Node). m.blocks) (sym (node-in g s i p.low)) in
     subst (λ xs. ShowsPointers xs (block_at s b)) same (subst (λ c. ShowsPointers (node_of s n).blocks (block_at s c)) p.is shown)
 
+clean-counted : (g : Geometry) (s : Stored) (i : ℕ) (bytes : List ℕ) → IsClean g s → body (volume_in g s) i ≡ File bytes → (node (volume_in g s) i).links ≡ links_to (volume_in g s) i
+clean-counted g s i bytes clean is = elim (cases_lt i (inodes_of g)) [
+  | inl low ↦
+      let n = the_inode g s i in
+      let kind : n.kind ≡ 1 = file-one n (sym (body-in g s i low) ∙ is) ((clean.table.inodes i low).0).kind in
+      ap (λ (m : Node). m.links) (node-in g s i low) ∙ clean.linked i low kind
+  | inr past ↦ absurd (free-file (sym (ap (λ (m : Node). m.body) (node-past g s i past)) ∙ is))
+]
+  where
+    free-file : Free ≡ File bytes → ⊥
+    free-file e = cc
+
+    dir-file : (slots : List (Option Entry)) → Dir slots ≡ File bytes → ⊥
+    dir-file slots e = cc
+
+    file-one : (n : Inode) → body_of s n ≡ File bytes → n.kind ≤ 2 → n.kind ≡ 1
+    file-one n e k = elim (kinds n.kind k) [
+      | free z ↦ absurd (free-file (sym (body-free s n z) ∙ e))
+      | file z ↦ z
+      | dir z ↦ absurd (dir-file _ (sym (body-dir s n z) ∙ e))
+    ]
+
 clean-sound : (g : Geometry) (s : Stored) → ArePages s → IsClean g s → IsSound g (volume_in g s)
 clean-sound g s pages clean =
     let m = g.meta_low in
@@ -225,6 +259,7 @@ clean-sound g s pages clean =
       once = clean.reached.once;
       names = clean.names;
       reached = clean.reached.reached;
+      counted = λ i bytes is. clean-counted g s i bytes clean is;
     }
 
 all-zeros : (page : List ℕ) → length page ≡ 4096 → ((k : ℕ) → slice_index page k ≡ 0) → page ≡ zeros

@@ -24,7 +24,7 @@ use Rattle.mq_tree.specs.Decoded.{Stored, volume_in}
 use Rattle.mq_tree.specs.Laid.{zone_block}
 use Rattle.mq_tree.specs.Volume.{is_taken}
 use Rattle.mq_tree.specs.declared.corrupt.CorruptCause.{CorruptCause}
-use Rattle.mq_tree.specs.declared.corrupt.CorruptCause.TheVariants.{Layout, Pointer, Unmarked, Shared, Twin, Unreached, Kind, Tail}
+use Rattle.mq_tree.specs.declared.corrupt.CorruptCause.TheVariants.{Layout, Pointer, Unmarked, Shared, Count, Twin, Unreached, Kind, Tail}
 use Rattle.mq_tree.proofs.Decoded.{inode-not_wrong, slot-not_wrong}
 use Rattle.mq_tree.proofs.LaidUses.{use-taken}
 
@@ -61,7 +61,7 @@ kind-clean g s b clean (names_free d k e at free) = true≢false (sym (clean.nam
 
 shared-clean : (g : Geometry) (s : Stored) (b : ℕ) → IsClean g s → IsShared g s b → ⊥
 shared-clean g s b clean (shared_block u w e f not) = not (clean.apart u w b e.block f.block)
-shared-clean g s b clean (shared_inode d k c l x y e f at too same not low is) = not (clean.reached.once d k c l e f at.there too.there same)
+shared-clean g s b clean (shared_inode d k c l x y e f at too same dir not low is) = not (clean.reached.once d k c l e f at.there too.there same dir)
 
 marks-of : (g : Geometry) (s : Stored) (zone k : ℕ) → IsClean g s → zone < queues_of g → k < zone_size g → bit_of (block_at s (zone_bitmap zone)) k ≡ (if is_taken (volume_in g s) (zone_block g zone k) then 1 else 0)
 marks-of g s zone k clean low small =
@@ -93,6 +93,7 @@ corrupt-not_clean g s Layout b h clean = layout-clean g s b clean h
 corrupt-not_clean g s Pointer b h clean = pointer-clean g s b clean h
 corrupt-not_clean g s Unmarked b h clean = unmarked-clean g s b clean h
 corrupt-not_clean g s Shared b h clean = shared-clean g s b clean h
+corrupt-not_clean g s Count b h clean = h.other (clean.linked h.i h.low h.file)
 corrupt-not_clean g s Twin b h clean = h.apart (clean.names h.d h.k h.l h.e h.f h.first.there h.second.there h.same)
 corrupt-not_clean g s Unreached b h clean = unreached-clean g s b clean h
 corrupt-not_clean g s Kind b h clean = kind-clean g s b clean h

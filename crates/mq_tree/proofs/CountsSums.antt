@@ -88,7 +88,7 @@ sum-kept : (f : Body → ℕ) (cs : List InodeContent) → sum_in f cs ≡ sum_o
 sum-kept f [] = refl
 sum-kept f (c ∷ cs) =
     let left = sum_by-cons (λ (d : InodeContent). f (body_kept d)) c cs in
-    let right = sum_by-cons (λ (k : Node). f k.body) (record { body = body_kept c; blocks = []; indirect = None }) (kept cs) in
+    let right = sum_by-cons (λ (k : Node). f k.body) (record { body = body_kept c; blocks = []; indirect = None; links = 0 }) (kept cs) in
     let rest = sum-kept f cs in
     omega (arith, left, right, rest)
 

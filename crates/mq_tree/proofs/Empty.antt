@@ -15,7 +15,7 @@ use Rattle.mq_layout.proofs.EmptyLaws.{empty-mark-others, empty-mark-root, empty
 use Rattle.mq_tree.specs.Empty.{ArePages, empty_node, empty_volume}
 use Rattle.mq_tree.specs.Laid.{IsLaid, IsPage, ShowsMarks, ShowsRegion, ShowsTable, InodeMarks, Table, inode_marked, inode_of, is_marked, map_of, padded, region, zone_block, zone_marked}
 use Rattle.mq_tree.specs.Sound.{IsNode, IsSound}
-use Rattle.mq_tree.specs.Volume.{ADir, Node, Path, Use, Part, Pointers, Volume, block_in, body, find, free_node, inode_at, is_taken, is_used, node, slot, slots_of, thing, tree}
+use Rattle.mq_tree.specs.Volume.{File, Free, ADir, Node, Path, Use, Part, Pointers, Volume, block_in, body, find, free_node, inode_at, is_taken, is_used, node, slot, slots_of, thing, tree}
 use Rattle.mq_tree.proofs.LaidMaps.{mapped, unmapped, zone-low}
 use Rattle.mq_tree.proofs.LaidRegions.{region-inode_marks, region-marks, region-table}
 
@@ -56,11 +56,15 @@ root-used n zero e = refl
 root-used n (suc i) e = let f = ap (λ (m : Node). is_used m.body) (free-at n i) in absurd (true≢false (sym e ∙ f))
 
 blank-nodes : (n i : ℕ) → IsNode (node (blank n) i)
-blank-nodes n zero = record { body = (omega arith, refl, λ k e f. absurd (cc)); indirect = refl }
-blank-nodes n (suc i) = let free : IsNode free_node = record { body = refl; indirect = refl } in subst (λ m. IsNode m) (sym (free-at n i)) free
+blank-nodes n zero = record { body = (omega arith, refl, λ k e f. absurd (cc)); indirect = refl; links = refl }
+blank-nodes n (suc i) = let free : IsNode free_node = record { body = refl; indirect = refl; links = refl } in subst (λ m. IsNode m) (sym (free-at n i)) free
 
 some-none : {X R : Type 0} (o : Option X) (x : X) → o ≡ None → o ≡ Some x → R
 some-none o x e f = absurd (cc)
+
+no-file : {R : Type 0} (n i : ℕ) (bytes : List ℕ) → body (blank n) i ≡ File bytes → R
+no-file n zero bytes is = absurd (cc)
+no-file n (suc i) bytes is = let f : Free ≡ File bytes = sym (ap (λ (m : Node). m.body) (free-at n i)) ∙ is in absurd (cc)
 
 pub empty-sound : (g : Geometry) → IsSound g (empty_volume g)
 empty-sound g =
@@ -76,6 +80,7 @@ empty-sound g =
       once = λ d k c l e f s t h. some-none _ e (no-slots n d k) s;
       names = λ d k l e f s t h. some-none _ e (no-slots n d k) s;
       reached = λ i u. ([], ap (λ (j : ℕ). Some j) (sym (root-used n i u)));
+      counted = λ i bytes is. no-file n i bytes is;
     }
 
 -- ---- its blocks

@@ -5,9 +5,9 @@ use Rattle.std.specs.List.{list_all}
 use Rattle.std.proofs.lemmas.Bool.{and_parts, cond-true, lt-ltb, ltb-true}
 use Rattle.mq_blocks.specs.declared.geometry.Geometry.{Geometry}
 use Rattle.mq_layout.specs.Names.{is_name}
-use Rattle.mq_tree.specs.Faults.{IsAddFault, IsAddFull, IsDirFault, IsFault, IsFileFault, IsFull, IsMoveFull, IsRenameFault, IsRmdirFault, IsSizeFault, IsSpaceFault, IsUnfound}
+use Rattle.mq_tree.specs.Faults.{IsAddFault, IsAddFull, IsDirFault, IsFault, IsFileFault, IsFull, IsMoveFull, IsRenameFault, IsRmdirFault, IsSizeFault, IsSpaceFault, IsUnfound, IsLinkFault, IsLinkFull}
 use Rattle.mq_tree.specs.Free.{free_blocks}
-use Rattle.mq_tree.specs.Requests.{Root, Lost, In, RequestTarget, Verdict, Says, Makes, act, carried_out, count_names, freed, is_named, list_in, read_in, refused, rmdir, rmdir_in, stat_in, step, target, unlink, unlink_in, unlinked, verdict}
+use Rattle.mq_tree.specs.Requests.{Root, Lost, In, RequestTarget, Verdict, Says, Makes, act, carried_out, count_names, freed, released, is_named, list_in, read_in, refused, rmdir, rmdir_in, stat_in, step, target, unlink, unlink_in, unlinked, verdict}
 use Rattle.mq_tree.specs.Sound.{IsSound}
 use Rattle.mq_tree.specs.Volume.{Body, Free, File, Dir, Volume, body, way}
 use Rattle.mq_tree.specs.declared.request.Fault.{Fault}
@@ -15,12 +15,12 @@ use Rattle.mq_tree.specs.declared.request.Fault.TheVariants.{NotEmpty, NoSpace}
 use Rattle.mq_tree.specs.declared.request.Reply.{Reply}
 use Rattle.mq_tree.specs.declared.request.Reply.TheVariants.{Ok as Done, Refused}
 use Rattle.mq_tree.specs.declared.request.Request.{Request}
-use Rattle.mq_tree.specs.declared.request.Request.TheVariants.{Mkdir, Create, Write, Truncate, Unlink, Rmdir, Rename, Read, List as ListOf, Stat}
+use Rattle.mq_tree.specs.declared.request.Request.TheVariants.{Mkdir, Create, Write, Truncate, Unlink, Rmdir, Rename, Link, Read, List as ListOf, Stat}
 use Rattle.mq_tree.proofs.KeptAsks.{answers-says}
 use Rattle.mq_tree.proofs.KeptSteps.{asks-makes, outcome}
 use Rattle.mq_tree.proofs.RequestsVerdicts.{makes-parts, makes-then, says-makes}
 use Rattle.mq_tree.proofs.SoundVolumes.{sound-tree}
-use Rattle.mq_tree.proofs.FaultsOnly.{asks-only, list-body, make-full, make-only, read-body, rename-full, rename-only, rmdir-only, same-reply, stat-body, truncate-only, unlink-only, write-only}
+use Rattle.mq_tree.proofs.FaultsOnly.{asks-only, link-full, link-only, list-body, make-full, make-only, read-body, rename-full, rename-only, rmdir-only, same-reply, stat-body, truncate-only, unlink-only, write-only}
 
 -- ---- all of them
 
@@ -33,6 +33,7 @@ IsEarly g q v (Truncate p size) fault = IsSizeFault v p size fault
 IsEarly g q v (Unlink p) fault = IsUnfound v p fault ⊎ IsDirFault v p fault
 IsEarly g q v (Rmdir p) fault = IsRmdirFault v p fault
 IsEarly g q v (Rename p to) fault = IsRenameFault v p to fault ⊎ IsMoveFull g q v p to fault
+IsEarly g q v (Link p to) fault = IsLinkFault v p to fault ⊎ IsLinkFull g q v p to fault
 IsEarly g q v (Read p at count) fault = IsUnfound v p fault ⊎ IsDirFault v p fault
 IsEarly g q v (ListOf p) fault = IsUnfound v p fault ⊎ IsFileFault v p fault
 IsEarly g q v (Stat p) fault = IsUnfound v p fault
@@ -45,6 +46,7 @@ act-early g q v (Truncate p size) fault s good e = truncate-only g q v p size fa
 act-early g q v (Unlink p) fault s good e = unlink-only v p fault (sound-tree g v s) e
 act-early g q v (Rmdir p) fault s good e = rmdir-only g v p fault s e
 act-early g q v (Rename p to) fault s good e = rename-only g q v p to fault s (and_parts (list_all is_name p) (list_all is_name to) good).1 e
+act-early g q v (Link p to) fault s good e = link-only g q v p to fault s (and_parts (list_all is_name p) (list_all is_name to) good).1 e
 act-early g q v (Read p at count) fault s good e = asks-only v p fault (read_in at count) (IsDirFault v p fault) (sound-tree g v s) (λ i b leads used is h. read-body v p fault at count i b leads used is h) e
 act-early g q v (ListOf p) fault s good e = asks-only v p fault list_in (IsFileFault v p fault) (sound-tree g v s) (λ i b leads used is h. list-body v p fault i b leads used is h) e
 act-early g q v (Stat p) fault s good e = elim (asks-only v p fault stat_in ⊥ (sound-tree g v s) (λ i b leads used is h. stat-body v p fault i b leads used is h) e) [ inl u ↦ u | inr never ↦ absurd never ]
@@ -64,6 +66,8 @@ early-said g q v (Unlink p) fault f = inl f
 early-said g q v (Rmdir p) fault f = inl f
 early-said g q v (Rename p to) fault (inl f) = inl f
 early-said g q v (Rename p to) fault (inr f) = inr (inl f)
+early-said g q v (Link p to) fault (inl f) = inl f
+early-said g q v (Link p to) fault (inr f) = inr (inl f)
 early-said g q v (Read p at count) fault f = inl f
 early-said g q v (ListOf p) fault f = inl f
 early-said g q v (Stat p) fault f = inl f
@@ -82,7 +86,7 @@ unlink-blocks v (In d name (Some i)) n w e = go (body v i) e
   where
     go : (b : Body) → unlink_in v d name i b ≡ Makes n w → n ≡ 0
     go Free h = says-makes _ n w h
-    go (File old) h = (makes-parts 0 n (freed (unlinked v d name) i) w h).0
+    go (File old) h = (makes-parts 0 n (released (unlinked v d name) i) w h).0
     go (Dir slots) h = says-makes _ n w h
 
 rmdir-blocks : (v : Volume) (t : RequestTarget) (n : ℕ) (w : Volume) → rmdir v t ≡ Makes n w → n ≡ 0
@@ -104,6 +108,7 @@ space-said g q v (Truncate p size) fault f = f
 space-said g q v (Unlink p) fault f = no-blocks g v f.0 (unlink-blocks v (target v (way p)) f.0 f.1 f.2) f.3
 space-said g q v (Rmdir p) fault f = no-blocks g v f.0 (rmdir-blocks v (target v (way p)) f.0 f.1 f.2) f.3
 space-said g q v (Rename p to) fault f = inr f
+space-said g q v (Link p to) fault f = inr f
 space-said g q v (Read p at count) fault f = asks-makes v (read_in at count) (target v (way p)) f.0 f.1 f.2
 space-said g q v (ListOf p) fault f = asks-makes v list_in (target v (way p)) f.0 f.1 f.2
 space-said g q v (Stat p) fault f = asks-makes v stat_in (target v (way p)) f.0 f.1 f.2
@@ -155,6 +160,8 @@ room-refused g q v (Unlink p) fault s good f = absurd f
 room-refused g q v (Rmdir p) fault s good f = absurd f
 room-refused g q v (Rename p to) fault s good (inl f) = step-refuses g q v (Rename p to) fault good (rename-full g q v p to fault s (and_parts (list_all is_name p) (list_all is_name to) good).1 f)
 room-refused g q v (Rename p to) fault s good (inr f) = step-space g q v (Rename p to) fault good f
+room-refused g q v (Link p to) fault s good (inl f) = step-refuses g q v (Link p to) fault good (link-full g q v p to fault s (and_parts (list_all is_name p) (list_all is_name to) good).1 f)
+room-refused g q v (Link p to) fault s good (inr f) = step-space g q v (Link p to) fault good f
 room-refused g q v (Read p at count) fault s good f = absurd f
 room-refused g q v (ListOf p) fault s good f = absurd f
 room-refused g q v (Stat p) fault s good f = absurd f

@@ -1,5 +1,5 @@
 -- Where a request is refused, the tree says so, or there is no room.
-use Rattle.std.proofs.Common.{◌≡◌, ◌≢◌, ℕ, ◌+◌, ◌<◌, ◌≤◌, ◌⊎◌, inl, inr, List, [], ◌∷◌, ◌++◌, length, Bool, true, false, cond, refl, sym, ap, subst, ◌∙◌, arith}
+use Rattle.std.proofs.Common.{suc, ◌≡◌, ◌≢◌, ℕ, ◌+◌, ◌<◌, ◌≤◌, ◌⊎◌, inl, inr, List, [], ◌∷◌, ◌++◌, length, Bool, true, false, cond, refl, sym, ap, subst, ◌∙◌, arith}
 use Rattle.std.specs.Prelude.{Option, Some, None, reverse, nat_eq, nat_le, nat_lt}
 use Rattle.std.specs.List.{list_all}
 use Rattle.std.proofs.lemmas.List.{reverse-reverse}
@@ -11,21 +11,23 @@ use Rattle.mq_layout.specs.Names.{is_name}
 use Rattle.mq_layout.specs.Places.{file_limit, names_limit}
 use Rattle.mq_layout.specs.Slots.{Entry}
 use Rattle.mq_tree.proofs.VolumeMove.{tails}
-use Rattle.mq_tree.specs.Faults.{IsAddFault, IsAddFull, IsAddRoomFault, IsDirFault, IsFileFault, IsFullDir, IsLost, IsMissing, IsMoveFull, IsMoveFault, IsRenameFault, IsRmdirFault, IsSizeFault, IsUnfound}
+use Rattle.mq_tree.specs.Faults.{IsAddFault, IsAddFull, IsAddRoomFault, IsDirFault, IsFileFault, IsFullDir, IsLost, IsMissing, IsMoveFull, IsMoveFault, IsRenameFault, IsRmdirFault, IsSizeFault, IsUnfound, IsLinkFault, IsLinkFull}
+use Rattle.mq_tree.specs.Links.{links_to}
 use Rattle.mq_tree.specs.Free.{first_free}
 use Rattle.mq_tree.specs.Kept.{IsBare}
-use Rattle.mq_tree.specs.Requests.{Root, Lost, In, RequestTarget, Verdict, Says, Makes, asks, count_names, cut_to, freed, is_below, list_in, make, make_free, move, read_in, refused, rename, rmdir, rmdir_in, set_bytes, spliced, stat_in, step, target, truncate, truncate_in, unlink, unlink_in, unlinked, write, write_in}
+use Rattle.mq_tree.specs.Requests.{Root, Lost, In, RequestTarget, Verdict, Says, Makes, asks, count_names, cut_to, freed, is_below, list_in, make, make_free, move, read_in, refused, rename, rmdir, rmdir_in, set_bytes, spliced, stat_in, step, target, truncate, truncate_in, unlink, unlink_in, unlinked, write, write_in, link, link_file, link_needs, link_to, linked, links_limit, with_links}
 use Rattle.mq_tree.specs.Sound.{IsSound}
-use Rattle.mq_tree.specs.Volume.{ADir, AFile, Body, Free, File, Dir, Path, Thing, Volume, Way, body, inode_at, is_used, slots_of, thing, tree, way}
+use Rattle.mq_tree.specs.Volume.{ADir, AFile, Body, Free, File, Dir, Path, Thing, Volume, Way, body, inode_at, is_used, node, slots_of, thing, tree, way}
 use Rattle.mq_tree.specs.declared.request.Fault.{Fault}
-use Rattle.mq_tree.specs.declared.request.Fault.TheVariants.{NotFound, Exists, NotDir, IsDir, NotEmpty, BadName, TooBig, Subtree, NoInodes}
+use Rattle.mq_tree.specs.declared.request.Fault.TheVariants.{NotFound, Exists, NotDir, IsDir, NotEmpty, BadName, TooBig, Subtree, NoInodes, Links}
 use Rattle.mq_tree.specs.declared.request.Reply.{Reply}
 use Rattle.mq_tree.specs.declared.request.Reply.TheVariants.{Data, Names, File as Size, Dir as Count, Refused}
 use Rattle.mq_tree.specs.declared.request.Request.TheVariants.{Stat}
 use Rattle.mq_tree.proofs.KeptAsks.{reads-leads}
 use Rattle.mq_tree.proofs.VolumeChanges.{unlinked-other, unlinked-room}
 use Rattle.mq_tree.proofs.Faults.{IsView, missing-target, path-of, target-view, there-target}
-use Rattle.mq_tree.proofs.VolumePaths.{IsTree, one-way, thing-here, used-is}
+use Rattle.mq_tree.proofs.VolumePaths.{IsTree, file-dir, one-way, thing-here, used-is}
+use Rattle.mq_tree.proofs.Counting.{counted-file, file-is}
 use Rattle.mq_tree.proofs.KeptRefusals.{bare-count}
 use Rattle.mq_tree.proofs.RequestsTargets.{IsIn, way-append}
 use Rattle.mq_tree.proofs.SoundVolumes.{dir-slots, sound-nodes, sound-tree}
@@ -199,7 +201,7 @@ parent-same v from parent d c name other found k source at is =
 
 parent-other : (v : Volume) (from parent : Path) (d c : ℕ) (name : List ℕ) (found : Option ℕ) → IsTree v → IsIn v from d name found → inode_at v (way parent) ≡ Some c → c ≡ d → from ≡ parent ++ name ∷ []
 parent-other v from parent d c name found k source at same =
-    let ways : source.parent ≡ way parent = one-way v k.named k.once source.parent (way parent) d source.leads (at ∙ ap (λ (x : ℕ). Some x) same) in
+    let ways : source.parent ≡ way parent = one-way v k.named k.once source.parent (way parent) d source.directory source.leads (at ∙ ap (λ (x : ℕ). Some x) same) in
     path-of from name source.parent source.is ∙ ap (λ (w : Way). reverse w ++ name ∷ []) ways ∙ ap (λ (p : Path). p ++ name ∷ []) (reverse-reverse parent)
 
 -- what is full without a name is another directory, and is full with it
@@ -267,6 +269,80 @@ rename-full g q v from to fault s good f =
     let big : names_limit ≤ count_names (slots_of (body u c)) = omega arith in
     ap (λ (x : RequestTarget). rename g q v from to x) t.target_is ∙ cond-false (is_below from to) (refused Subtree) (move g q u t.inode (target v (way to))) f.apart ∙ ap (λ (x : RequestTarget). move g q u t.inode x) r.2
     ∙ cond-true (nat_le names_limit (count_names (slots_of (body u c)))) _ _ (le-leb names_limit (count_names (slots_of (body u c))) big) ∙ ap (λ (x : Fault). refused x) (sym f.fault_is)
+
+-- ---- a name more
+
+-- it is refused by what stands at the second path, or there is no room
+abbrev IsFileOnly : Geometry → ℕ → Volume → Path → Path → Fault → Type 0
+IsFileOnly g q v from to fault = IsDirFault v from fault ⊎ (((old : List ℕ) × (tree v from ≡ Some (AFile old)) × IsAddFault v to fault) ⊎ IsLinkFull g q v from to fault)
+
+pub link-only : (g : Geometry) (q : ℕ) (v : Volume) (from to : Path) (fault : Fault) → IsSound g v → list_all is_name to ≡ true → link g q v (target v (way to)) (target v (way from)) ≡ refused fault → IsLinkFault v from to fault ⊎ IsLinkFull g q v from to fault
+link-only g q v from to fault s good e = order (target-only v from fault (λ t. link g q v (target v (way to)) t) (IsFileOnly g q v from to fault) (λ f. refl) (λ d name. refl) (λ is h. inl (root-tree v from (sound-tree g v s) is, same-refused IsDir fault h))
+    (λ d name i view h. there d name i view.1 view.2 (body v i) refl h) (target v (way from)) (target-view v from (sound-tree g v s)) e)
+  where
+    room : (i : ℕ) (old : List ℕ) → inode_at v (way from) ≡ Some i → body v i ≡ File old → (c : ℕ) (new : List ℕ) → IsView v to (In c new None) → link_to g q v i (In c new None) ≡ refused fault → IsLinkFull g q v from to fault
+    room i old at is c new view h =
+        let k = sound-tree g v s in
+        let m = view.0 in
+        let names = count_names (slots_of (body v c)) in
+        let fine = parent-good v to m good in
+        let many = nat_le links_limit (node v i).links in
+        let there_is = body-tree v from i (File old) at is in
+        let counted = counted-file v i old s.counted (ap (λ (b : Body). thing b) is) in
+        elim (cond-refused (nat_le names_limit names) TooBig (cond many (refused Links) _) fault h) [
+          | inl big ↦ record { old = old; there = there_is; missing = m; full = inl ((names, stat-count g q v m.parent c k fine view.1 m.directory, leb-true names_limit names big.0), big.1) }
+          | inr rest ↦
+              let few = leb-false names_limit names rest.0 in
+              elim (cond-refused many Links _ fault rest.1) [
+                | inl most ↦
+                    let limit = leb-true links_limit (node v i).links most.0 in
+                    let reached : links_limit ≤ links_to v i = omega arith in
+                    record { old = old; there = there_is; missing = m; full = inr (λ f. let l = full-dir g q v m.parent c k fine view.1 m.directory f in absurd (omega arith), (i, at, reached), most.1) }
+                | inr made ↦ makes-refused _ _ fault made.1
+              ]
+        ]
+
+    there : (d : ℕ) (name : List ℕ) (i : ℕ) → inode_at v (way from) ≡ Some i → is_used (body v i) ≡ true → (b : Body) → body v i ≡ b → link_file g q v i (target v (way to)) b ≡ refused fault → IsFileOnly g q v from to fault
+    there d name i at used Free is h = free-used (body v i) used is
+    there d name i at used (Dir slots) is h = inl (body-tree v from i (Dir slots) at is, same-refused IsDir fault h)
+    there d name i at used (File old) is h =
+        elim (add-only v to fault (λ t. link_to g q v i t) (IsLinkFull g q v from to fault) (sound-tree g v s) refl (λ f. refl) (λ c new j. refl) (λ c new view k. room i old at is c new view k) (target v (way to)) (target-view v to (sound-tree g v s)) h) [
+          | inl add ↦ inr (inl (old, body-tree v from i (File old) at is, add))
+          | inr full ↦ inr (inr full)
+        ]
+
+    order : IsUnfound v from fault ⊎ IsFileOnly g q v from to fault → IsLinkFault v from to fault ⊎ IsLinkFull g q v from to fault
+    order (inl u) = inl (inl u)
+    order (inr (inl d)) = inl (inr (inl d))
+    order (inr (inr (inl a))) = inl (inr (inr a))
+    order (inr (inr (inr full))) = inr full
+
+-- the other way round
+pub link-full : (g : Geometry) (q : ℕ) (v : Volume) (from to : Path) (fault : Fault) → IsSound g v → list_all is_name to ≡ true → IsLinkFull g q v from to fault → link g q v (target v (way to)) (target v (way from)) ≡ refused fault
+link-full g q v from to fault s good f =
+    let k = sound-tree g v s in
+    let m = f.missing in
+    let some : from ≢ [] = λ is. file-dir f.old (sym f.there ∙ root-tree v from k is) in
+    let t = there-target v from (AFile f.old) k some f.there in
+    let r = missing-target v to k m in
+    let i = t.inode in
+    let c = r.0 in
+    let was : body v i ≡ File f.old = file-is (body v i) f.old t.thing_is in
+    let counted = counted-file v i f.old s.counted t.thing_is in
+    let names = count_names (slots_of (body v c)) in
+    let many = nat_le links_limit (node v i).links in
+    let made = Makes (link_needs (node v c)) (linked g q (with_links v i (suc (node v i).links)) c (record { inode = i; name = r.1 })) in
+    ap (λ (x : RequestTarget). link g q v (target v (way to)) x) t.target_is ∙ ap (λ (b : Body). link_file g q v i (target v (way to)) b) was ∙ ap (λ (x : RequestTarget). link_to g q v i x) r.2 ∙ elim f.full [
+      | inl big ↦
+          let l = full-dir g q v m.parent c k (parent-good v to m good) r.3 m.directory big.0 in
+          cond-true (nat_le names_limit names) (refused TooBig) (cond many (refused Links) made) (le-leb names_limit names l) ∙ ap (λ (x : Fault). refused x) (sym big.1)
+      | inr most ↦
+          let few : nat_le names_limit names ≡ false = false_from_ne_true (nat_le names_limit names) (λ y. most.0 (names, stat-count g q v m.parent c k (parent-good v to m good) r.3 m.directory, leb-true names_limit names y)) in
+          let same : most.1.0 ≡ i = same_Some most.1.0 i (sym most.1.1 ∙ t.leads) in
+          let reached : links_limit ≤ links_to v i = subst (λ x. links_limit ≤ links_to v x) same most.1.2 in
+          let limit : links_limit ≤ (node v i).links = omega arith in
+          cond-false (nat_le names_limit names) (refused TooBig) (cond many (refused Links) made) few ∙ cond-true many (refused Links) made (le-leb links_limit (node v i).links limit) ∙ ap (λ (x : Fault). refused x) (sym most.2)
+    ]
 
 -- ---- requests that read
 

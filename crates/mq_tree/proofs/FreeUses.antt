@@ -6,6 +6,7 @@ use Rattle.std.proofs.lemmas.Option.{none-some, same_Some}
 use Rattle.mq_blocks.specs.Geometry.{homes_of, meta_of, queues_of}
 use Rattle.mq_blocks.specs.declared.geometry.Geometry.{Geometry}
 use Rattle.mq_tree.specs.Free.{first_of, free_blocks, grown, needs, one_more, order, pointed, with_block, with_pointers}
+use Rattle.mq_tree.specs.Links.{HasLinks}
 use Rattle.mq_tree.specs.Uses.{AreUses}
 use Rattle.mq_tree.specs.Volume.{Node, Volume, body, free_node, node, Use, Part, Pointers, block_in, is_taken}
 use Rattle.mq_tree.proofs.Decoded.{taken-use}
@@ -26,8 +27,12 @@ node-other v i x n other = get_or-set_other v i x n free_node other
 abbrev pub IsWithin : Volume → Volume → Type 0
 IsWithin w v = (u : Use) (b : ℕ) → block_in w u ≡ Some b → block_in v u ≡ Some b
 
-pub uses-within : (g : Geometry) (v w : Volume) → AreUses g v → IsWithin w v → AreUses g w
-uses-within g v w a h = record { zones = λ u b e. a.zones u b (h u b e); apart = λ u x b e f. a.apart u x b (h u b e) (h x b f) }
+pub uses-within : (g : Geometry) (v w : Volume) → AreUses g v → IsWithin w v → ((i : ℕ) → HasLinks (body w i) (node w i).links) → AreUses g w
+uses-within g v w a h links = record { zones = λ u b e. a.zones u b (h u b e); apart = λ u x b e f. a.apart u x b (h u b e) (h x b f); links = links }
+
+-- where bodies and links stay, they fit still
+pub links-kept : (v w : Volume) → ((x : ℕ) → body w x ≡ body v x) → ((x : ℕ) → (node w x).links ≡ (node v x).links) → ((x : ℕ) → HasLinks (body v x) (node v x).links) → (x : ℕ) → HasLinks (body w x) (node w x).links
+links-kept v w bodies links h x = subst (λ b. HasLinks b (node w x).links) (sym (bodies x)) (subst (λ k. HasLinks (body v x) k) (sym (links x)) (h x))
 
 taken-within : (v w : Volume) → IsWithin w v → (x : ℕ) → is_taken v x ≡ false → is_taken w x ≡ false
 taken-within v w h x n = false_from_ne_true _ (λ t. let r = taken-use w x t in true≢false (sym (use-taken v r.0 x (h r.0 x r.1)) ∙ n))
@@ -48,8 +53,9 @@ past-twelve n other = elim (cases_lt 12 n) [
 pub not-used : (v : Volume) (u : Use) (b c : ℕ) → is_taken v b ≡ false → block_in v u ≡ Some c → c ≢ b
 not-used v u b c n e same = true≢false (sym (use-taken v u c e) ∙ ap (λ (x : ℕ). is_taken v x) same ∙ n)
 
-uses-more : (g : Geometry) (v w : Volume) (u : Use) (b : ℕ) → AreUses g v → (meta_of g ≤ b) × (b < homes_of g) → is_taken v b ≡ false → IsMore v w u b → AreUses g w
-uses-more g v w u b a inside free more = record {
+uses-more : (g : Geometry) (v w : Volume) (u : Use) (b : ℕ) → AreUses g v → (meta_of g ≤ b) × (b < homes_of g) → is_taken v b ≡ false → IsMore v w u b → ((i : ℕ) → HasLinks (body w i) (node w i).links) → AreUses g w
+uses-more g v w u b a inside free more links = record {
+  links = links;
   zones = λ x c e. elim (more x c e) [
     | inl old ↦ a.zones x c old
     | inr new ↦ subst (λ y. (meta_of g ≤ y) × (y < homes_of g)) (sym new.1) inside
@@ -88,7 +94,7 @@ push-get (x ∷ xs) b (suc k) c e = elim (push-get xs b k c e) [
 more-block : (v : Volume) (i b : ℕ) → i < length v → IsMore v (with_block v i (Some b)) (Part i (length (node v i).blocks)) b
 more-block v i b l (Part j k) c e = elim (cases_eq j i) [
   | inl same ↦
-      let n : Node = record { body = (node v i).body; blocks = (node v i).blocks ++ b ∷ []; indirect = (node v i).indirect } in
+      let n : Node = record { body = (node v i).body; blocks = (node v i).blocks ++ b ∷ []; indirect = (node v i).indirect; links = (node v i).links } in
       let here : slice_get ((node v i).blocks ++ b ∷ []) k ≡ Some c = ap (λ (m : Node). slice_get m.blocks k) (sym (node-here v i n l)) ∙ ap (λ (x : ℕ). slice_get (node (set v i n) x).blocks k) (sym same) ∙ e in
       elim (push-get (node v i).blocks b k c here) [
         | inl old ↦ inl (ap (λ (x : ℕ). slice_get (node v x).blocks k) same ∙ old)
@@ -98,7 +104,7 @@ more-block v i b l (Part j k) c e = elim (cases_eq j i) [
 ]
 more-block v i b l (Pointers j) c e = elim (cases_eq j i) [
   | inl same ↦
-      let n : Node = record { body = (node v i).body; blocks = (node v i).blocks ++ b ∷ []; indirect = (node v i).indirect } in
+      let n : Node = record { body = (node v i).body; blocks = (node v i).blocks ++ b ∷ []; indirect = (node v i).indirect; links = (node v i).links } in
       inl (ap (λ (x : ℕ). (node v x).indirect) same ∙ ap (λ (m : Node). m.indirect) (sym (node-here v i n l)) ∙ ap (λ (x : ℕ). (node (set v i n) x).indirect) (sym same) ∙ e)
   | inr other ↦ inl (ap (λ (m : Node). m.indirect) (sym (node-other v i j _ other)) ∙ e)
 ]
@@ -106,13 +112,13 @@ more-block v i b l (Pointers j) c e = elim (cases_eq j i) [
 more-pointers : (v : Volume) (i b : ℕ) → i < length v → IsMore v (with_pointers v i (Some b)) (Pointers i) b
 more-pointers v i b l (Part j k) c e = elim (cases_eq j i) [
   | inl same ↦
-      let n : Node = record { body = (node v i).body; blocks = (node v i).blocks; indirect = Some b } in
+      let n : Node = record { body = (node v i).body; blocks = (node v i).blocks; indirect = Some b; links = (node v i).links } in
       inl (ap (λ (x : ℕ). slice_get (node v x).blocks k) same ∙ ap (λ (m : Node). slice_get m.blocks k) (sym (node-here v i n l)) ∙ ap (λ (x : ℕ). slice_get (node (set v i n) x).blocks k) (sym same) ∙ e)
   | inr other ↦ inl (ap (λ (m : Node). slice_get m.blocks k) (sym (node-other v i j _ other)) ∙ e)
 ]
 more-pointers v i b l (Pointers j) c e = elim (cases_eq j i) [
   | inl same ↦
-      let n : Node = record { body = (node v i).body; blocks = (node v i).blocks; indirect = Some b } in
+      let n : Node = record { body = (node v i).body; blocks = (node v i).blocks; indirect = Some b; links = (node v i).links } in
       let here : Some b ≡ Some c = ap (λ (m : Node). m.indirect) (sym (node-here v i n l)) ∙ ap (λ (x : ℕ). (node (set v i n) x).indirect) (sym same) ∙ e in
       inr (ap (λ (x : ℕ). Pointers x) same, sym (same_Some b c here))
   | inr other ↦ inl (ap (λ (m : Node). m.indirect) (sym (node-other v i j _ other)) ∙ e)
@@ -128,14 +134,14 @@ append-get (x ∷ xs) ys (suc k) c e = append-get xs ys k c e
 block-kept : (v : Volume) (i b : ℕ) → i < length v → IsWithin v (with_block v i (Some b))
 block-kept v i b l (Part j k) c e = elim (cases_eq j i) [
   | inl same ↦
-      let n : Node = record { body = (node v i).body; blocks = (node v i).blocks ++ b ∷ []; indirect = (node v i).indirect } in
+      let n : Node = record { body = (node v i).body; blocks = (node v i).blocks ++ b ∷ []; indirect = (node v i).indirect; links = (node v i).links } in
       ap (λ (x : ℕ). slice_get (node (set v i n) x).blocks k) same ∙ ap (λ (m : Node). slice_get m.blocks k) (node-here v i n l)
       ∙ append-get (node v i).blocks (b ∷ []) k c (ap (λ (x : ℕ). slice_get (node v x).blocks k) (sym same) ∙ e)
   | inr other ↦ ap (λ (m : Node). slice_get m.blocks k) (node-other v i j _ other) ∙ e
 ]
 block-kept v i b l (Pointers j) c e = elim (cases_eq j i) [
   | inl same ↦
-      let n : Node = record { body = (node v i).body; blocks = (node v i).blocks ++ b ∷ []; indirect = (node v i).indirect } in
+      let n : Node = record { body = (node v i).body; blocks = (node v i).blocks ++ b ∷ []; indirect = (node v i).indirect; links = (node v i).links } in
       ap (λ (x : ℕ). (node (set v i n) x).indirect) same ∙ ap (λ (m : Node). m.indirect) (node-here v i n l) ∙ ap (λ (x : ℕ). (node v x).indirect) (sym same) ∙ e
   | inr other ↦ ap (λ (m : Node). m.indirect) (node-other v i j _ other) ∙ e
 ]
@@ -146,7 +152,7 @@ no-pointers o c n e = absurd (true≢false (ap (λ (x : Option ℕ). is_some x) 
 pointers-kept : (v : Volume) (i b : ℕ) → i < length v → is_some (node v i).indirect ≡ false → IsWithin v (with_pointers v i (Some b))
 pointers-kept v i b l none (Part j k) c e = elim (cases_eq j i) [
   | inl same ↦
-      let n : Node = record { body = (node v i).body; blocks = (node v i).blocks; indirect = Some b } in
+      let n : Node = record { body = (node v i).body; blocks = (node v i).blocks; indirect = Some b; links = (node v i).links } in
       ap (λ (x : ℕ). slice_get (node (set v i n) x).blocks k) same ∙ ap (λ (m : Node). slice_get m.blocks k) (node-here v i n l) ∙ ap (λ (x : ℕ). slice_get (node v x).blocks k) (sym same) ∙ e
   | inr other ↦ ap (λ (m : Node). slice_get m.blocks k) (node-other v i j _ other) ∙ e
 ]
@@ -176,6 +182,7 @@ fresh-then v u w kept first more x b e = elim (more x b e) [
 -- an inode has `count` blocks more, and nothing else changed but its block of pointers
 pub record IsGrown (g : Geometry) (v w : Volume) (i count : ℕ) : Type 0 where
   pub bodies : (x : ℕ) → body w x ≡ body v x
+  pub links : (x : ℕ) → (node w x).links ≡ (node v x).links
   pub rest : (x : ℕ) → x ≢ i → node w x ≡ node v x
   pub size : length w ≡ length v
   pub longer : length (node w i).blocks ≡ length (node v i).blocks + count
@@ -187,6 +194,7 @@ pub record IsGrown (g : Geometry) (v w : Volume) (i count : ℕ) : Type 0 where
 -- `cost` blocks are taken at most
 record IsTaken (g : Geometry) (v w : Volume) (i count cost : ℕ) (pointers : Bool) : Type 0 where
   bodies : (x : ℕ) → body w x ≡ body v x
+  links : (x : ℕ) → (node w x).links ≡ (node v x).links
   rest : (x : ℕ) → x ≢ i → node w x ≡ node v x
   size : length w ≡ length v
   longer : length (node w i).blocks ≡ length (node v i).blocks + count
@@ -202,6 +210,12 @@ bodies-set v i n l e x = elim (cases_eq x i) [
   | inr other ↦ ap (λ (m : Node). m.body) (node-other v i x n other)
 ]
 
+pub links-set : (v : Volume) (i : ℕ) (n : Node) → i < length v → n.links ≡ (node v i).links → (x : ℕ) → (node (set v i n) x).links ≡ (node v x).links
+links-set v i n l e x = elim (cases_eq x i) [
+  | inl same ↦ ap (λ (y : ℕ). (node (set v i n) y).links) same ∙ ap (λ (m : Node). m.links) (node-here v i n l) ∙ e ∙ ap (λ (y : ℕ). (node v y).links) (sym same)
+  | inr other ↦ ap (λ (m : Node). m.links) (node-other v i x n other)
+]
+
 some-taken : (g : Geometry) (q : ℕ) (v : Volume) → q < queues_of g → 1 ≤ free_blocks g v → (b : ℕ) × (first_of v (order g q) ≡ Some b)
 some-taken g q v low l = let e = count-order g q v low in first-some v (order g q) (omega arith)
 
@@ -209,16 +223,17 @@ block-taken : (g : Geometry) (q : ℕ) (v : Volume) (i : ℕ) (pointers : Bool) 
 block-taken g q v i pointers low l uses has some =
     let r = some-taken g q v low some in
     let b = r.0 in
-    let n : Node = record { body = (node v i).body; blocks = (node v i).blocks ++ b ∷ []; indirect = (node v i).indirect } in
+    let n : Node = record { body = (node v i).body; blocks = (node v i).blocks ++ b ∷ []; indirect = (node v i).indirect; links = (node v i).links } in
     let w = set v i n in
     let more = more-block v i b l in
     let taken : IsTaken g v w i 1 1 pointers = record {
       bodies = bodies-set v i n l refl;
+      links = links-set v i n l refl;
       rest = λ x other. node-other v i x n other;
       size = length-set v i n;
       longer = ap (λ (m : Node). length m.blocks) (node-here v i n l) ∙ length-append (node v i).blocks (b ∷ []);
       indirect = ap (λ (m : Node). is_some m.indirect) (node-here v i n l) ∙ has;
-      uses = uses-more g v w (Part i (length (node v i).blocks)) b uses (first-zones g q v b low r.1) (first-not_taken v (order g q) b r.1) more;
+      uses = uses-more g v w (Part i (length (node v i).blocks)) b uses (first-zones g q v b low r.1) (first-not_taken v (order g q) b r.1) more (links-kept v w (bodies-set v i n l refl) (links-set v i n l refl) uses.links);
       kept = block-kept v i b l;
       fresh = fresh-more v w (Part i (length (node v i).blocks)) b (first-not_taken v (order g q) b r.1) more;
       free = (let f = uses-free g v w (Part i (length (node v i).blocks)) b more in omega arith);
@@ -229,16 +244,17 @@ pointers-taken : (g : Geometry) (q : ℕ) (v : Volume) (i : ℕ) → q < queues_
 pointers-taken g q v i low l uses none some =
     let r = some-taken g q v low some in
     let b = r.0 in
-    let n : Node = record { body = (node v i).body; blocks = (node v i).blocks; indirect = Some b } in
+    let n : Node = record { body = (node v i).body; blocks = (node v i).blocks; indirect = Some b; links = (node v i).links } in
     let w = set v i n in
     let more = more-pointers v i b l in
     let taken : IsTaken g v w i 0 1 true = record {
       bodies = bodies-set v i n l refl;
+      links = links-set v i n l refl;
       rest = λ x other. node-other v i x n other;
       size = length-set v i n;
       longer = (let e = ap (λ (m : Node). length m.blocks) (node-here v i n l) in omega arith);
       indirect = ap (λ (m : Node). is_some m.indirect) (node-here v i n l);
-      uses = uses-more g v w (Pointers i) b uses (first-zones g q v b low r.1) (first-not_taken v (order g q) b r.1) more;
+      uses = uses-more g v w (Pointers i) b uses (first-zones g q v b low r.1) (first-not_taken v (order g q) b r.1) more (links-kept v w (bodies-set v i n l refl) (links-set v i n l refl) uses.links);
       kept = pointers-kept v i b l none;
       fresh = fresh-more v w (Pointers i) b (first-not_taken v (order g q) b r.1) more;
       free = (let f = uses-free g v w (Pointers i) b more in omega arith);
@@ -252,6 +268,7 @@ next_cost have = if nat_eq have 12 then 2 else 1
 both-taken : (g : Geometry) (v u w : Volume) (i : ℕ) (a b : Bool) (c d e : ℕ) → IsTaken g v u i 0 c a → IsTaken g u w i 1 d b → e ≡ c + d → IsTaken g v w i 1 e b
 both-taken g v u w i a b c d e s t is = record {
   bodies = λ x. t.bodies x ∙ s.bodies x;
+  links = λ x. t.links x ∙ s.links x;
   rest = λ x other. t.rest x other ∙ s.rest x other;
   size = t.size ∙ s.size;
   longer = (let p = s.longer in let q = t.longer in omega arith);
@@ -317,7 +334,7 @@ needs-next have count = elim (cases_eq have 12) [
 
 pub grown-is : (g : Geometry) (q : ℕ) (v : Volume) (i count : ℕ) → q < queues_of g → i < length v → AreUses g v → is_some (node v i).indirect ≡ nat_lt 12 (length (node v i).blocks)
     → needs (length (node v i).blocks) (length (node v i).blocks + count) ≤ free_blocks g v → IsGrown g v (grown g q v i count) i count
-grown-is g q v i zero low l uses has few = record { bodies = λ x. refl; rest = λ x other. refl; size = refl; longer = omega arith; indirect = has; uses = uses; kept = λ u b e. e; fresh = λ u b e. inl e }
+grown-is g q v i zero low l uses has few = record { bodies = λ x. refl; links = λ x. refl; rest = λ x other. refl; size = refl; longer = omega arith; indirect = has; uses = uses; kept = λ u b e. e; fresh = λ u b e. inl e }
 grown-is g q v i (suc count) low l uses has few =
     let have = length (node v i).blocks in
     let w = one_more g q (pointed g q v i) i in
@@ -332,6 +349,7 @@ grown-is g q v i (suc count) low l uses has few =
     let later = r.longer in
     record {
       bodies = λ x. r.bodies x ∙ t.bodies x;
+      links = λ x. r.links x ∙ t.links x;
       rest = λ x other. r.rest x other ∙ t.rest x other;
       size = r.size ∙ t.size;
       longer = omega arith;

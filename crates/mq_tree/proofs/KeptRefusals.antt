@@ -6,16 +6,16 @@ use Rattle.std.proofs.lemmas.Option.{none-some}
 use Rattle.mq_blocks.specs.declared.geometry.Geometry.{Geometry}
 use Rattle.mq_layout.specs.Places.{file_limit}
 use Rattle.mq_layout.specs.Slots.{Entry}
-use Rattle.mq_tree.specs.Faults.{IsAddFault, IsDirFault, IsFault, IsFileFault, IsMoveFault, IsRenameFault, IsRmdirFault, IsSizeFault, IsUnfound}
+use Rattle.mq_tree.specs.Faults.{IsAddFault, IsDirFault, IsFault, IsFileFault, IsMoveFault, IsRenameFault, IsRmdirFault, IsSizeFault, IsUnfound, IsLinkFault}
 use Rattle.mq_tree.specs.Kept.{AreNamesAt, IsBare}
-use Rattle.mq_tree.specs.Requests.{Root, Lost, In, RequestTarget, Verdict, Says, act, asks, carried_out, count_names, cut_to, is_below, is_named, list_in, make, move, names_in, read_in, refused, rename, rmdir, rmdir_in, set_bytes, spliced, stat_in, step, target, truncate, truncate_in, unlink, unlink_in, unlinked, write, write_in}
+use Rattle.mq_tree.specs.Requests.{Root, Lost, In, RequestTarget, Verdict, Says, act, asks, carried_out, count_names, cut_to, is_below, is_named, list_in, make, move, names_in, read_in, refused, rename, rmdir, rmdir_in, set_bytes, spliced, stat_in, step, target, truncate, truncate_in, unlink, unlink_in, unlinked, write, write_in, link, link_file, link_to}
 use Rattle.mq_tree.specs.Sound.{IsSound}
 use Rattle.mq_tree.specs.Volume.{ADir, AFile, Body, File, Dir, Path, Thing, Volume, body, inode_at, thing, tree, way}
 use Rattle.mq_tree.specs.declared.request.Fault.{Fault}
 use Rattle.mq_tree.specs.declared.request.Fault.TheVariants.{NotFound, Exists, NotDir, IsDir, NotEmpty, BadName, TooBig, Subtree}
 use Rattle.mq_tree.specs.declared.request.Reply.TheVariants.{Refused}
 use Rattle.mq_tree.specs.declared.request.Request.{Request}
-use Rattle.mq_tree.specs.declared.request.Request.TheVariants.{Mkdir, Create, Write, Truncate, Unlink, Rmdir, Rename, Read, List as ListOf, Stat}
+use Rattle.mq_tree.specs.declared.request.Request.TheVariants.{Mkdir, Create, Write, Truncate, Unlink, Rmdir, Rename, Link, Read, List as ListOf, Stat}
 use Rattle.mq_tree.proofs.KeptAsks.{answers-says, file-bytes, names-at, names-count}
 use Rattle.mq_tree.proofs.Faults.{lost-target, missing-target, there-target}
 use Rattle.mq_tree.proofs.VolumePaths.{IsTree}
@@ -131,6 +131,13 @@ rename-refused g q v from to fault k (inr (inl u)) = unfound-refused v from faul
 rename-refused g q v from to fault k (inr (inr m)) =
     there-refused v from m.0 fault (λ t. rename g q v from to t) k (λ is. absurd (m.1 is)) (λ d name i at is. move-refused g q v (unlinked v d name) i from to fault k m.3) m.2
 
+link-refused : (g : Geometry) (q : ℕ) (v : Volume) (from to : Path) (fault : Fault) → IsTree v → IsLinkFault v from to fault → link g q v (target v (way to)) (target v (way from)) ≡ refused fault
+link-refused g q v from to fault k (inl u) = unfound-refused v from fault (λ t. link g q v (target v (way to)) t) (λ f. refl) (λ d name. refl) k u
+link-refused g q v from to fault k (inr (inl e)) = dir-refused v from fault (λ t. link g q v (target v (way to)) t) refl (λ d name i slots is. ap (λ (b : Body). link_file g q v i (target v (way to)) b) is) k e
+link-refused g q v from to fault k (inr (inr f)) =
+    there-refused v from (AFile f.0) fault (λ t. link g q v (target v (way to)) t) k (λ is. root-file v from f.0 k f.1 is)
+    (λ d name i at is. ap (λ (b : Body). link_file g q v i (target v (way to)) b) (file-bytes (body v i) f.0 is) ∙ add-refused v to fault (λ t. link_to g q v i t) refl (λ x. refl) (λ c new j. refl) k f.2) f.1
+
 act-refused : (g : Geometry) (q : ℕ) (v : Volume) (r : Request) (fault : Fault) → IsSound g v → IsFault v r fault → act g q v r ≡ refused fault
 act-refused g q v (Mkdir p) fault s f = add-refused v p fault (λ t. make g q v (Dir []) t) refl (λ x. refl) (λ d name i. refl) (sound-tree g v s) f
 act-refused g q v (Create p) fault s f = add-refused v p fault (λ t. make g q v (File []) t) refl (λ x. refl) (λ d name i. refl) (sound-tree g v s) f
@@ -142,6 +149,7 @@ act-refused g q v (Unlink p) fault s (inl u) = unfound-refused v p fault (λ t. 
 act-refused g q v (Unlink p) fault s (inr e) = dir-refused v p fault (λ t. unlink v t) refl (λ d name i slots is. ap (λ (b : Body). unlink_in v d name i b) is) (sound-tree g v s) e
 act-refused g q v (Rmdir p) fault s f = rmdir-refused g v p fault s f
 act-refused g q v (Rename p to) fault s f = rename-refused g q v p to fault (sound-tree g v s) f
+act-refused g q v (Link p to) fault s f = link-refused g q v p to fault (sound-tree g v s) f
 act-refused g q v (Read p at count) fault s (inl u) = unfound-refused v p fault (λ t. asks v (read_in at count) t) (λ x. refl) (λ d name. refl) (sound-tree g v s) u
 act-refused g q v (Read p at count) fault s (inr e) = dir-refused v p fault (λ t. asks v (read_in at count) t) (let r = dir-slots (body v 0) (sound-tree g v s).root in ap (λ (b : Body). Says (read_in at count b)) r.1)
     (λ d name i slots is. ap (λ (b : Body). Says (read_in at count b)) is) (sound-tree g v s) e

@@ -1,5 +1,5 @@
 -- Requests and groups: the volume stays sound, and the tree changes as each reply says.
-use Rattle.std.proofs.Common.{◌≡◌, ℕ, suc, ◌+◌, ◌<◌, ◌≤◌, ◌⊎◌, inl, inr, List, [], ◌∷◌, length, Bool, true, false, cond, refl, sym, ap, ◌∙◌, arith}
+use Rattle.std.proofs.Common.{◌≡◌, ℕ, suc, ◌+◌, ◌<◌, ◌≤◌, ◌⊎◌, inl, inr, List, [], ◌∷◌, length, Bool, true, false, cond, refl, sym, ap, ◌∙◌, arith, lit<, lit≤}
 use Rattle.std.specs.Prelude.{Option, Some, None, nat_eq, nat_le, nat_lt}
 use Rattle.std.specs.Bool.{⊤}
 use Rattle.std.specs.List.{All, list_all}
@@ -10,28 +10,28 @@ use Rattle.mq_layout.specs.Names.{is_name}
 use Rattle.mq_layout.specs.Places.{file_limit, names_limit}
 use Rattle.mq_tree.proofs.DecodedNaming.{none-entry}
 use Rattle.mq_tree.specs.Free.{first_free, free_blocks}
-use Rattle.mq_tree.specs.Kept.{HasBytes, IsAdded, IsBare, IsRemoved, IsRenamed, IsRewritten}
-use Rattle.mq_tree.specs.Requests.{Root, Lost, In, RequestOutcome, RequestTarget, Verdict, Says, Makes, act, after_group, asks, carried_out, count_names, cut_to, is_below, is_change, is_named, list_in, make, make_free, move, read_in, refused, rename, rmdir, rmdir_in, set_bytes, spliced, stat_in, step, target, truncate, truncate_in, unlink, unlink_in, unlinked, verdict, write, write_in}
+use Rattle.mq_tree.specs.Kept.{HasBytes, IsAdded, IsBare, IsLinked, IsRemoved, IsRenamed, IsRewritten}
+use Rattle.mq_tree.specs.Requests.{Root, Lost, In, RequestOutcome, RequestTarget, Verdict, Says, Makes, act, after_group, asks, carried_out, count_names, cut_to, is_below, is_change, is_named, link, link_file, link_to, links_limit, list_in, make, make_free, move, read_in, refused, rename, rmdir, rmdir_in, set_bytes, spliced, stat_in, step, target, truncate, truncate_in, unlink, unlink_in, unlinked, verdict, write, write_in}
 use Rattle.mq_tree.specs.Sound.{AreBytes, IsSound}
-use Rattle.mq_tree.specs.Volume.{ADir, AFile, Body, Free, File, Dir, Path, Volume, body, slots_of, thing, way}
+use Rattle.mq_tree.specs.Volume.{ADir, AFile, Body, Free, File, Dir, Path, Volume, body, node, slots_of, thing, way}
 use Rattle.mq_tree.specs.declared.request.Fault.{Fault}
 use Rattle.mq_tree.specs.declared.request.Fault.TheVariants.{BadName, NoSpace}
 use Rattle.mq_tree.specs.declared.request.Reply.{Reply}
 use Rattle.mq_tree.specs.declared.request.Reply.TheVariants.{Ok as Done, Refused}
 use Rattle.mq_tree.specs.declared.request.Request.{Request}
-use Rattle.mq_tree.specs.declared.request.Request.TheVariants.{Mkdir, Create, Write, Truncate, Unlink, Rmdir, Rename, Read, List as ListOf, Stat}
+use Rattle.mq_tree.specs.declared.request.Request.TheVariants.{Mkdir, Create, Write, Truncate, Unlink, Rmdir, Rename, Link, Read, List as ListOf, Stat}
 use Rattle.mq_tree.proofs.VolumeChanges.{IsNew}
 use Rattle.mq_tree.proofs.RequestsNodes.{cut-bytes, cut-length, spliced-bytes, spliced-length}
-use Rattle.mq_tree.proofs.KeptSound.{bare-below, cuts-kept, fills-kept, moves-kept, new-kept}
-use Rattle.mq_tree.proofs.RequestsVerdicts.{IsBareDir, IsFile, makes-new, makes-then, rename-moves, rmdir-cuts, says-makes, truncate-fills, unlink-cuts, write-fills}
+use Rattle.mq_tree.proofs.KeptSound.{bare-below, cuts-kept, fills-kept, links-kept, moves-kept, new-kept, unlinks-kept}
+use Rattle.mq_tree.proofs.RequestsVerdicts.{IsBareDir, link-makes, makes-new, makes-then, rename-moves, rmdir-cuts, says-makes, truncate-fills, unlink-cuts, write-fills}
 
 -- ---- each request
 
 new-file : IsNew (File []) (AFile [])
-new-file = record { thing_is = refl; form = (omega arith, refl, λ k. omega arith); empty = λ l. refl }
+new-file = record { thing_is = refl; form = (omega arith, refl, λ k. omega arith); empty = λ l. refl; links = (lit≤ tt, lit< tt) }
 
 new-dir : IsNew (Dir []) ADir
-new-dir = record { thing_is = refl; form = (omega arith, refl, λ k e h. none-entry e h); empty = λ l. refl }
+new-dir = record { thing_is = refl; form = (omega arith, refl, λ k e h. none-entry e h); empty = λ l. refl; links = refl }
 
 root-dir : (g : Geometry) (v : Volume) → IsSound g v → thing (body v 0) ≡ Some ADir
 root-dir g v s = ap (λ (b : Body). thing b) s.root.1
@@ -54,17 +54,21 @@ truncate-kept g q v p size n w low s enough e = fills-kept g q v p size (λ old.
 unlink-kept : (g : Geometry) (q : ℕ) (v : Volume) (p : Path) (n : ℕ) (w : Volume) → IsSound g v → act g q v (Unlink p) ≡ Makes n w → IsSound g w × (old : List ℕ) × IsRemoved v w p (AFile old)
 unlink-kept g q v p n w s e =
     let m = unlink-cuts v p n w (root-dir g v s) e in
-    let r = cuts-kept g v p w IsFile (AFile m.was.0) s m (ap (λ (b : Body). thing b) m.was.1) in
-    (r.0, m.was.0, r.1)
+    let r = unlinks-kept g v p w s m in
+    (r.0, m.old, r.1)
 
 rmdir-kept : (g : Geometry) (q : ℕ) (v : Volume) (p : Path) (n : ℕ) (w : Volume) → IsSound g v → act g q v (Rmdir p) ≡ Makes n w → IsSound g w × IsRemoved v w p ADir × IsBare v p
 rmdir-kept g q v p n w s e =
     let m = rmdir-cuts v p n w (root-dir g v s) e in
-    let r = cuts-kept g v p w IsBareDir ADir s m (ap (λ (b : Body). thing b) m.was.1) in
+    let dir : thing (body v m.inode) ≡ Some ADir = ap (λ (b : Body). thing b) m.was.1 in
+    let r = cuts-kept g v p w IsBareDir ADir s m (λ x l y k a b h i c d. s.once x l y k a b h i (c ∙ sym d) (ap (λ (j : ℕ). thing (body v j)) c ∙ dir)) dir in
     (r.0, r.1, bare-below g v p m.directory m.name m.inode m.target m.empty)
 
 rename-kept : (g : Geometry) (q : ℕ) (v : Volume) (p to : Path) (n : ℕ) (w : Volume) → q < queues_of g → IsSound g v → list_all is_name to ≡ true → n ≤ free_blocks g v → act g q v (Rename p to) ≡ Makes n w → IsSound g w × IsRenamed v w p to
 rename-kept g q v p to n w low s good enough e = moves-kept g q v p to n w low s good enough (rename-moves g q v p to n w (root-dir g v s) e)
+
+link-kept : (g : Geometry) (q : ℕ) (v : Volume) (p to : Path) (n : ℕ) (w : Volume) → q < queues_of g → IsSound g v → list_all is_name to ≡ true → n ≤ free_blocks g v → act g q v (Link p to) ≡ Makes n w → IsSound g w × IsLinked v w p to
+link-kept g q v p to n w low s good enough e = links-kept g q v p to n w low s good enough (link-makes g q v p to n w (root-dir g v s) e)
 
 pub asks-makes : {R : Type 0} (v : Volume) (reply : Body → Reply) (t : RequestTarget) (n : ℕ) (w : Volume) → asks v reply t ≡ Makes n w → R
 asks-makes v reply Root n w e = says-makes _ n w e
@@ -80,6 +84,7 @@ act-sound g q v (Truncate p size) n w low s good fine enough e = (truncate-kept 
 act-sound g q v (Unlink p) n w low s good fine enough e = (unlink-kept g q v p n w s e).0
 act-sound g q v (Rmdir p) n w low s good fine enough e = (rmdir-kept g q v p n w s e).0
 act-sound g q v (Rename p to) n w low s good fine enough e = (rename-kept g q v p to n w low s (and_parts (list_all is_name p) (list_all is_name to) good).1 enough e).0
+act-sound g q v (Link p to) n w low s good fine enough e = (link-kept g q v p to n w low s (and_parts (list_all is_name p) (list_all is_name to) good).1 enough e).0
 act-sound g q v (Read p at count) n w low s good fine enough e = asks-makes v (read_in at count) (target v (way p)) n w e
 act-sound g q v (ListOf p) n w low s good fine enough e = asks-makes v list_in (target v (way p)) n w e
 act-sound g q v (Stat p) n w low s good fine enough e = asks-makes v stat_in (target v (way p)) n w e
@@ -193,6 +198,23 @@ rename-refuses g q v p to (Lost fault) = refusing fault
 rename-refuses g q v p to (In d name None) = refusing _
 rename-refuses g q v p to (In d name (Some i)) = refuses-cond (is_below p to) _ _ (refusing _) (move-refuses g q (unlinked v d name) i (target v (way to)))
 
+link_to-refuses : (g : Geometry) (q : ℕ) (v : Volume) (i : ℕ) (t : RequestTarget) → OnlyRefuses (link_to g q v i t)
+link_to-refuses g q v i Root = refusing _
+link_to-refuses g q v i (Lost fault) = refusing fault
+link_to-refuses g q v i (In d name (Some j)) = refusing _
+link_to-refuses g q v i (In d name None) = refuses-cond (nat_le names_limit (count_names (slots_of (body v d)))) _ _ (refusing _) (refuses-cond (nat_le links_limit (node v i).links) _ _ (refusing _) tt)
+
+link-refuses : (g : Geometry) (q : ℕ) (v : Volume) (to t : RequestTarget) → OnlyRefuses (link g q v to t)
+link-refuses g q v to Root = refusing _
+link-refuses g q v to (Lost fault) = refusing fault
+link-refuses g q v to (In d name None) = refusing _
+link-refuses g q v to (In d name (Some i)) = body-refuses (body v i)
+  where
+    body-refuses : (b : Body) → OnlyRefuses (link_file g q v i to b)
+    body-refuses Free = refusing _
+    body-refuses (File bytes) = link_to-refuses g q v i to
+    body-refuses (Dir slots) = refusing _
+
 act-refuses : (g : Geometry) (q : ℕ) (v : Volume) (r : Request) → is_change r ≡ true → OnlyRefuses (act g q v r)
 act-refuses g q v (Mkdir p) e = make-refuses g q v (Dir []) (target v (way p))
 act-refuses g q v (Create p) e = make-refuses g q v (File []) (target v (way p))
@@ -201,6 +223,7 @@ act-refuses g q v (Truncate p size) e = truncate-refuses g q v size (target v (w
 act-refuses g q v (Unlink p) e = unlink-refuses v (target v (way p))
 act-refuses g q v (Rmdir p) e = rmdir-refuses v (target v (way p))
 act-refuses g q v (Rename p to) e = rename-refuses g q v p to (target v (way p))
+act-refuses g q v (Link p to) e = link-refuses g q v (target v (way to)) (target v (way p))
 act-refuses g q v (Read p at count) e = absurd (true≢false (sym e))
 act-refuses g q v (ListOf p) e = absurd (true≢false (sym e))
 act-refuses g q v (Stat p) e = absurd (true≢false (sym e))
@@ -264,6 +287,11 @@ ok-rename g q v p to s low e =
     let k = step-ok g q v (Rename p to) refl e in
     (rename-kept g q v p to k.blocks _ low s (and_parts (list_all is_name p) (list_all is_name to) k.named).1 k.enough k.acts).1
 
+pub ok-link : (g : Geometry) (q : ℕ) (v : Volume) (p to : Path) → IsSound g v → q < queues_of g → (step g q v (Link p to)).reply ≡ Done → IsLinked v (step g q v (Link p to)).next p to
+ok-link g q v p to s low e =
+    let k = step-ok g q v (Link p to) refl e in
+    (link-kept g q v p to k.blocks _ low s (and_parts (list_all is_name p) (list_all is_name to) k.named).1 k.enough k.acts).1
+
 -- ---- what changes nothing
 
 carried-refused : (g : Geometry) (v : Volume) (x : Verdict) (fault : Fault) → (carried_out g v x).reply ≡ Refused fault → (carried_out g v x).next ≡ v
@@ -301,6 +329,7 @@ act-says g q v (Truncate p size) e = absurd (true≢false e)
 act-says g q v (Unlink p) e = absurd (true≢false e)
 act-says g q v (Rmdir p) e = absurd (true≢false e)
 act-says g q v (Rename p to) e = absurd (true≢false e)
+act-says g q v (Link p to) e = absurd (true≢false e)
 act-says g q v (Read p at count) e = asks-says v (read_in at count) (target v (way p))
 act-says g q v (ListOf p) e = asks-says v list_in (target v (way p))
 act-says g q v (Stat p) e = asks-says v stat_in (target v (way p))

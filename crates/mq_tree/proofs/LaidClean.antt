@@ -109,7 +109,7 @@ body-kind s n (File bytes) h e =
 body-kind s n (Dir slots) h e = body-dir s (inode_of n) (ap kind_of e) ∙ ap (λ (ys : List (Option Entry)). Dir ys) (the-slots s n slots h e)
 
 node-decoded : (s : Stored) (n : Node) → Held s n → node_of s (inode_of n) ≡ n
-node-decoded s n h = node-parts (node_of s (inode_of n)) n (body-kind s n n.body h refl) (the-blocks s n h) (the-indirect n h.good)
+node-decoded s n h = node-parts (node_of s (inode_of n)) n (body-kind s n n.body h refl) (the-blocks s n h) (the-indirect n h.good) refl
 
 -- ---- the volume
 
@@ -271,6 +271,10 @@ laid-clean g s pages laid =
       named = laid.sound.named;
       names = laid.sound.names;
       reached = record { once = laid.sound.once; reached = laid.sound.reached };
+      linked = λ i low kind.
+          let n : kind_of (body v i) ≡ 1 = ap (λ (m : Inode). m.kind) (same i low) ∙ kind in
+          let f = file-kind (body v i) n in
+          ap (λ (m : Inode). m.links) (sym (same i low)) ∙ laid.sound.counted i f.0 f.1;
       marked = record { zones = λ zone low. zone-shown g s v zone laid low; inodes = inodes-shown g s v laid };
       ended = λ i k low.
           let P : Inode → Type 0 = λ n. n.kind ≡ 1 → n.size ≤ k → k < 4096 * count_of n → byte_of s n k ≡ 0 in

@@ -60,6 +60,7 @@ record Alike (n m : Node) : Type 0 where
   kinds : kind_of n.body ≡ kind_of m.body
   sizes : size_of n.body (length n.blocks) ≡ size_of m.body (length m.blocks)
   indirect : n.indirect ≡ m.indirect
+  links : n.links ≡ m.links
   first : (k : ℕ) → k < 12 → get_or n.blocks k 0 ≡ get_or m.blocks k 0
 
 alike : (n m : Node) → IsNode n → IsNode m → inode_of n ≡ inode_of m → Alike n m
@@ -73,6 +74,7 @@ alike n m g h e =
       kinds = kinds;
       sizes = sizes;
       indirect = same-option n.indirect m.indirect (g.indirect ∙ ap (λ (c : ℕ). nat_lt 12 c) count ∙ sym h.indirect) (ap (λ (i : Inode). i.indirect) e);
+      links = ap (λ (i : Inode). i.links) e;
       first = λ k l. sym (padded-at 12 n.blocks k l) ∙ ap (λ (xs : List ℕ). get_or xs k 0) direct ∙ padded-at 12 m.blocks k l;
     }
 
@@ -135,11 +137,12 @@ same-body (Dir r) (Dir t) blocks g h k s parts = ap (λ (z : List (Option Entry)
 
 -- ---- an inode of two volumes on a map
 
-pub node-parts : (n m : Node) → n.body ≡ m.body → n.blocks ≡ m.blocks → n.indirect ≡ m.indirect → n ≡ m
-node-parts n m e f h =
-    ap (λ (b : Body). record { body = b; blocks = n.blocks; indirect = n.indirect }) e
-    ∙ ap (λ (xs : List ℕ). record { body = m.body; blocks = xs; indirect = n.indirect }) f
-    ∙ ap (λ (o : Option ℕ). record { body = m.body; blocks = m.blocks; indirect = o }) h
+pub node-parts : (n m : Node) → n.body ≡ m.body → n.blocks ≡ m.blocks → n.indirect ≡ m.indirect → n.links ≡ m.links → n ≡ m
+node-parts n m e f h i =
+    ap (λ (b : Body). record { body = b; blocks = n.blocks; indirect = n.indirect; links = n.links }) e
+    ∙ ap (λ (xs : List ℕ). record { body = m.body; blocks = xs; indirect = n.indirect; links = n.links }) f
+    ∙ ap (λ (o : Option ℕ). record { body = m.body; blocks = m.blocks; indirect = o; links = n.links }) h
+    ∙ ap (λ (k : ℕ). record { body = m.body; blocks = m.blocks; indirect = m.indirect; links = k }) i
 
 -- the block of the table in which an inode stands
 pub table-shows : (g : Geometry) (map : Map) (v : Volume) (block : ℕ) → IsLaid g map v → table_first g + block < meta_of g → (page : List ℕ) × (map (table_first g + block) ≡ Some page) × ShowsTable v block page
@@ -178,7 +181,7 @@ nodes-same g map v w i laid too low =
     (s.page, s.left, s.right) in
     let fits : IsBody m.body (length n.blocks) = subst (λ c. IsBody m.body c) (sym a.count) fine.body in
     let sizes : size_of n.body (length n.blocks) ≡ size_of m.body (length n.blocks) = a.sizes ∙ ap (λ (c : ℕ). size_of m.body c) (sym a.count) in
-    node-parts n m (same-body n.body m.body n.blocks good.body fits a.kinds sizes parts) blocks a.indirect
+    node-parts n m (same-body n.body m.body n.blocks good.body fits a.kinds sizes parts) blocks a.indirect a.links
 
 pub volume-once : (g : Geometry) (map : Map) (v w : Volume) → IsLaid g map v → IsLaid g map w → v ≡ w
 volume-once g map v w laid too =

@@ -1,5 +1,6 @@
 pub mod CleanLaid
 pub mod CorruptRefuted
+pub mod Counting
 pub mod CountsSums
 pub mod Decoded
 pub mod DecodedClaiming
@@ -25,6 +26,7 @@ pub mod LaidUnique
 pub mod LaidUses
 pub mod ListText
 pub mod ListTextSorting
+pub mod LinksCounted
 pub mod Listings
 pub mod Members
 pub mod Parts

@@ -1,5 +1,5 @@
 -- A listing has a line for each path of a tree, in rising order.
-use Rattle.std.proofs.Common.{get_or, set, ◌≡◌, ℕ, zero, suc, ◌+◌, ◌<◌, ◌≤◌, ◌⊎◌, inl, inr, List, [], ◌∷◌, ◌++◌, append_assoc, length, length-append, map, replicate, Bool, true, false, Ordering, Less, Equal, refl, sym, ap, subst, ◌∙◌, arith, get_or-set_other, length-set}
+use Rattle.std.proofs.Common.{get_or, set, ◌≡◌, ◌≢◌, ℕ, zero, suc, ◌+◌, ◌<◌, ◌≤◌, ◌⊎◌, inl, inr, List, [], ◌∷◌, ◌++◌, append_assoc, length, length-append, map, replicate, Bool, true, false, Ordering, Less, Equal, refl, sym, ap, subst, ◌∙◌, arith, get_or-set_other, length-set}
 use Rattle.std.specs.Prelude.{Option, Some, None, codes, if◌then◌else◌, ⊤}
 use Rattle.std.specs.Cmp.{IsTotalOrder}
 use Rattle.std.specs.Cmp.Lexicographic.{slice_cmp}
@@ -16,7 +16,7 @@ use Rattle.mq_layout.specs.Slots.{Entry}
 use Rattle.mq_tree.specs.ListText.{Item, entries_in, items_of, line_of, lines, list_text, name_count, path_of, slot_count}
 use Rattle.mq_tree.specs.Listings.{ArePaths, IsListing, lines_at, names_text, path_cmp, path_text, thing_line}
 use Rattle.mq_tree.specs.Sound.{IsSound}
-use Rattle.mq_tree.specs.Volume.{Body, Free, File, Dir, Path, Thing, Things, Volume, Way, body, inode_at, is_used, slots_of, thing, tree, way}
+use Rattle.mq_tree.specs.Volume.{ADir, Body, Free, File, Dir, Path, Thing, Things, Volume, Way, body, inode_at, is_used, slots_of, thing, tree, way}
 use Rattle.mq_tree.specs.Walks.{is_seen}
 use Rattle.mq_tree.proofs.KeptAsks.{thing-leads}
 use Rattle.mq_tree.proofs.VolumeMove.{leads-part}
@@ -213,18 +213,33 @@ record Ready (v : Volume) (count : ℕ) (pending : List PendingItem) (seen : Lis
 pending-used : (v : Volume) (s : PendingItem) → IsTree v → Waits v s → is_used (body v (place s)) ≡ true
 pending-used v s t w = leads-used v t (way s.path) (place s) w.leads
 
-pending-unseen : (v : Volume) (count : ℕ) (s : PendingItem) (pending : List PendingItem) (seen : List Bool) → IsTree v → Ready v count (s ∷ pending) seen → is_seen seen (place s) ≡ false
-pending-unseen v count s pending seen t r = elim (cases_Bool (is_seen seen (place s))) [
-  | inl was ↦
-      let p = r.past (place s) was in
-      let w = r.waits s (cons-here s pending s refl) in
-      let same : p.0 ≡ s.path = same-way p.0 s.path (one-way v t.named t.once (way p.0) (way s.path) (place s) p.1 w.leads) in
-      less-equal (sym (p.2 s (cons-here s pending s refl)) ∙ ap (λ (q : Path). path_cmp q s.path) same ∙ tied_itself path_total s.path)
-  | inr new ↦ new
-]
+-- a directory was not listed before
+pending-past : (v : Volume) (count : ℕ) (s : PendingItem) (pending : List PendingItem) (seen : List Bool) → IsTree v → Ready v count (s ∷ pending) seen → is_seen seen (place s) ≡ true → thing (body v (place s)) ≢ Some ADir
+pending-past v count s pending seen t r was dir =
+    let p = r.past (place s) was in
+    let w = r.waits s (cons-here s pending s refl) in
+    let same : p.0 ≡ s.path = same-way p.0 s.path (one-way v t.named t.once (way p.0) (way s.path) (place s) dir p.1 w.leads) in
+    less-equal (sym (p.2 s (cons-here s pending s refl)) ∙ ap (λ (q : Path). path_cmp q s.path) same ∙ tied_itself path_total s.path)
+
+-- what is no directory has no names
+nameless-count : (b : Body) → (thing b ≢ Some ADir) → name_count b ≡ 0
+nameless-count Free other = refl
+nameless-count (File bytes) other = refl
+nameless-count (Dir slots) other = absurd (other refl)
+
+set-seen : (seen : List Bool) (i : ℕ) → is_seen seen i ≡ true → set seen i true ≡ seen
+set-seen [] i was = refl
+set-seen (b ∷ seen) zero was = ap (λ (c : Bool). c ∷ seen) (sym was)
+set-seen (b ∷ seen) (suc i) was = ap (λ (xs : List Bool). b ∷ xs) (set-seen seen i was)
 
 pending-listed : (v : Volume) (count : ℕ) (s : PendingItem) (pending : List PendingItem) (seen : List Bool) → IsTree v → Ready v count (s ∷ pending) seen → unlisted v seen ≡ name_count (body v (place s)) + unlisted v (set seen (place s) true)
-pending-listed v count s pending seen t r = unlisted-less v seen (place s) (used-low v (place s) (pending-used v s t (r.waits s (cons-here s pending s refl)))) r.size (pending-unseen v count s pending seen t r)
+pending-listed v count s pending seen t r = elim (cases_Bool (is_seen seen (place s))) [
+  | inl was ↦
+      let none = nameless-count (body v (place s)) (pending-past v count s pending seen t r was) in
+      let same : unlisted v (set seen (place s) true) ≡ unlisted v seen = ap (unlisted v) (set-seen seen (place s) was) in
+      omega arith
+  | inr new ↦ unlisted-less v seen (place s) (used-low v (place s) (pending-used v s t (r.waits s (cons-here s pending s refl)))) r.size new
+]
 
 pending-left : {R : Type 0} (v : Volume) (s : PendingItem) (pending : List PendingItem) (seen : List Bool) → Ready v zero (s ∷ pending) seen → R
 pending-left v s pending seen r = let e = r.enough in absurd (omega arith)

@@ -44,15 +44,15 @@ the-file = refl
 abbrev slots_with : Entry → List (Option Entry)
 slots_with e = Some e ∷ replicate 14 None
 
-the-root : node v 0 ≡ record { body = Dir (slots_with (record { inode = 1; name = a })); blocks = 4 ∷ []; indirect = None }
+the-root : node v 0 ≡ record { body = Dir (slots_with (record { inode = 1; name = a })); blocks = 4 ∷ []; indirect = None; links = 1 }
 unfolding step after_group small is_name
 the-root = refl
 
-the-directory : node v 1 ≡ record { body = Dir (slots_with (record { inode = 2; name = f })); blocks = 5 ∷ []; indirect = None }
+the-directory : node v 1 ≡ record { body = Dir (slots_with (record { inode = 2; name = f })); blocks = 5 ∷ []; indirect = None; links = 1 }
 unfolding step after_group small is_name
 the-directory = refl
 
-the-inode : node v 2 ≡ record { body = File (104 ∷ 105 ∷ []); blocks = 6 ∷ []; indirect = None }
+the-inode : node v 2 ≡ record { body = File (104 ∷ 105 ∷ []); blocks = 6 ∷ []; indirect = None; links = 1 }
 unfolding step after_group small is_name
 the-inode = refl
 
@@ -81,7 +81,7 @@ unfolding replies step after_group small is_name
 third-replies = refl
 
 -- what is left of the inodes, and a block of a directory stays
-third-left : after_group small 0 v third ≡ (record { body = Dir (replicate 15 None); blocks = 4 ∷ []; indirect = None }) ∷ replicate 31 free_node
+third-left : after_group small 0 v third ≡ (record { body = Dir (replicate 15 None); blocks = 4 ∷ []; indirect = None; links = 1 }) ∷ replicate 31 free_node
 unfolding step after_group small is_name
 third-left = refl
 

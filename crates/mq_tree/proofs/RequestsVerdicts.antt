@@ -1,16 +1,16 @@
 -- What requests that act found, and what they make.
-use Rattle.std.proofs.Common.{get_or, ◌≡◌, ℕ, ◌+◌, ◌<◌, ◌≤◌, List, length, Bool, true, false, cond, refl, ap, ◌∙◌}
+use Rattle.std.proofs.Common.{suc, get_or, ◌≡◌, ℕ, ◌+◌, ◌<◌, ◌≤◌, List, length, Bool, true, false, cond, refl, ap, ◌∙◌}
 use Rattle.std.specs.Prelude.{Option, Some, None, nat_eq, nat_le, nat_lt}
 use Rattle.std.proofs.lemmas.Bool.{eqb-true, leb-false, ltb-false}
 use Rattle.mq_blocks.specs.declared.geometry.Geometry.{Geometry}
 use Rattle.mq_layout.specs.Places.{file_limit, names_limit}
 use Rattle.mq_layout.specs.Slots.{Entry}
 use Rattle.mq_tree.specs.Free.{first_free, needs}
-use Rattle.mq_tree.specs.Requests.{Root, Lost, In, RequestTarget, Verdict, Says, Makes, count_names, cut_to, freed, is_below, link_needs, linked, make, make_free, move, refused, rename, resized, rmdir, rmdir_in, set_bytes, spliced, target, truncate, truncate_in, unlink, unlink_in, unlinked, write, write_in}
+use Rattle.mq_tree.specs.Requests.{Root, Lost, In, RequestTarget, Verdict, Says, Makes, count_names, cut_to, freed, released, is_below, link, link_file, link_needs, link_to, links_limit, linked, with_links, make, make_free, move, refused, rename, resized, rmdir, rmdir_in, set_bytes, spliced, target, truncate, truncate_in, unlink, unlink_in, unlinked, write, write_in}
 use Rattle.mq_tree.specs.Sound.{blocks_for}
 use Rattle.mq_tree.specs.Volume.{ADir, Body, Free, File, Dir, Path, Volume, body, is_used, node, slot, slots_of, thing, way}
 use Rattle.mq_tree.specs.declared.request.Fault.{Fault}
-use Rattle.mq_tree.specs.declared.request.Fault.TheVariants.{NotEmpty, Subtree, TooBig}
+use Rattle.mq_tree.specs.declared.request.Fault.TheVariants.{NotEmpty, Subtree, TooBig, Links}
 use Rattle.mq_tree.specs.declared.request.Reply.{Reply}
 use Rattle.mq_tree.proofs.VolumeChanges.{with_new}
 use Rattle.mq_tree.proofs.RequestsNodes.{nameless}
@@ -136,27 +136,36 @@ IsFile b = (old : List ℕ) × (b ≡ File old)
 abbrev pub IsBareDir : Body → Type 0
 IsBareDir b = (slots : List (Option Entry)) × (b ≡ Dir slots) × (count_names slots ≡ 0)
 
-unlink-body : (v : Volume) (path : Path) (n : ℕ) (w : Volume) (d : ℕ) (name : List ℕ) (i : ℕ) → IsIn v path d name (Some i) → (b : Body) → body v i ≡ b → unlink_in v d name i b ≡ Makes n w → CutsOld v path w IsFile
+-- a file that loses this name
+pub record UnlinksOld (v : Volume) (path : Path) (w : Volume) : Type 0 where
+  pub directory : ℕ
+  pub name : List ℕ
+  pub inode : ℕ
+  pub target : IsIn v path directory name (Some inode)
+  pub old : List ℕ
+  pub was : body v inode ≡ File old
+  pub next : w ≡ released (unlinked v directory name) inode
+
+unlink-body : (v : Volume) (path : Path) (n : ℕ) (w : Volume) (d : ℕ) (name : List ℕ) (i : ℕ) → IsIn v path d name (Some i) → (b : Body) → body v i ≡ b → unlink_in v d name i b ≡ Makes n w → UnlinksOld v path w
 unlink-body v path n w d name i t Free is e = says-makes _ n w e
 unlink-body v path n w d name i t (File old) is e = record {
   directory = d;
   name = name;
   inode = i;
   target = t;
-  used = ap (λ (b : Body). is_used b) is;
-  empty = λ l. ap (λ (b : Body). get_or (slots_of b) l None) is;
-  was = (old, is);
-  next = (makes-parts 0 n (freed (unlinked v d name) i) w e).1;
+  old = old;
+  was = is;
+  next = (makes-parts 0 n (released (unlinked v d name) i) w e).1;
 }
 unlink-body v path n w d name i t (Dir slots) is e = says-makes _ n w e
 
-unlink-in : (v : Volume) (path : Path) (n : ℕ) (w : Volume) → thing (body v 0) ≡ Some ADir → (t : RequestTarget) → target v (way path) ≡ t → unlink v t ≡ Makes n w → CutsOld v path w IsFile
+unlink-in : (v : Volume) (path : Path) (n : ℕ) (w : Volume) → thing (body v 0) ≡ Some ADir → (t : RequestTarget) → target v (way path) ≡ t → unlink v t ≡ Makes n w → UnlinksOld v path w
 unlink-in v path n w root Root is e = says-makes _ n w e
 unlink-in v path n w root (Lost fault) is e = says-makes _ n w e
 unlink-in v path n w root (In d name None) is e = says-makes _ n w e
 unlink-in v path n w root (In d name (Some i)) is e = unlink-body v path n w d name i (target-in v path d name (Some i) root is) (body v i) refl e
 
-pub unlink-cuts : (v : Volume) (path : Path) (n : ℕ) (w : Volume) → thing (body v 0) ≡ Some ADir → unlink v (target v (way path)) ≡ Makes n w → CutsOld v path w IsFile
+pub unlink-cuts : (v : Volume) (path : Path) (n : ℕ) (w : Volume) → thing (body v 0) ≡ Some ADir → unlink v (target v (way path)) ≡ Makes n w → UnlinksOld v path w
 unlink-cuts v path n w root e = unlink-in v path n w root (target v (way path)) refl e
 
 rmdir-body : (v : Volume) (path : Path) (n : ℕ) (w : Volume) (d : ℕ) (name : List ℕ) (i : ℕ) → IsIn v path d name (Some i) → (b : Body) → body v i ≡ b → rmdir_in v d name i b ≡ Makes n w → CutsOld v path w IsBareDir
@@ -184,6 +193,65 @@ rmdir-in v path n w root (In d name (Some i)) is e = rmdir-body v path n w d nam
 
 pub rmdir-cuts : (v : Volume) (path : Path) (n : ℕ) (w : Volume) → thing (body v 0) ≡ Some ADir → rmdir v (target v (way path)) ≡ Makes n w → CutsOld v path w IsBareDir
 rmdir-cuts v path n w root e = rmdir-in v path n w root (target v (way path)) refl e
+
+-- ---- a name more
+
+pub record LinksOld (g : Geometry) (q : ℕ) (v : Volume) (from to : Path) (n : ℕ) (w : Volume) : Type 0 where
+  pub directory : ℕ
+  pub name : List ℕ
+  pub inode : ℕ
+  pub old : List ℕ
+  pub source_directory : ℕ
+  pub source_name : List ℕ
+  pub source : IsIn v from source_directory source_name (Some inode)
+  pub was : body v inode ≡ File old
+  pub target : IsIn v to directory name None
+  pub few : count_names (slots_of (body v directory)) < names_limit
+  pub room : (node v inode).links < links_limit
+  pub blocks : n ≡ link_needs (node v directory)
+  pub next : w ≡ linked g q (with_links v inode (suc (node v inode).links)) directory (record { inode = inode; name = name })
+
+link-to : (g : Geometry) (q : ℕ) (v : Volume) (from to : Path) (n : ℕ) (w : Volume) (d : ℕ) (name : List ℕ) (i : ℕ) (old : List ℕ) → thing (body v 0) ≡ Some ADir → IsIn v from d name (Some i) → body v i ≡ File old
+    → (t : RequestTarget) → target v (way to) ≡ t → link_to g q v i t ≡ Makes n w → LinksOld g q v from to n w
+link-to g q v from to n w d name i old root source was Root is e = says-makes _ n w e
+link-to g q v from to n w d name i old root source was (Lost fault) is e = says-makes _ n w e
+link-to g q v from to n w d name i old root source was (In c new (Some j)) is e = says-makes _ n w e
+link-to g q v from to n w d name i old root source was (In c new None) is e =
+    let many = nat_le links_limit (node v i).links in
+    let made = linked g q (with_links v i (suc (node v i).links)) c (record { inode = i; name = new }) in
+    let r = refused-else (nat_le names_limit (count_names (slots_of (body v c)))) TooBig (cond many (refused Links) (Makes (link_needs (node v c)) made)) n w e in
+    let s = refused-else many Links (Makes (link_needs (node v c)) made) n w r.1 in
+    let p = makes-parts (link_needs (node v c)) n made w s.1 in
+    record {
+      directory = c;
+      name = new;
+      inode = i;
+      old = old;
+      source_directory = d;
+      source_name = name;
+      source = source;
+      was = was;
+      target = target-in v to c new None root is;
+      few = leb-false names_limit (count_names (slots_of (body v c))) r.0;
+      room = leb-false links_limit (node v i).links s.0;
+      blocks = p.0;
+      next = p.1;
+    }
+
+link-body : (g : Geometry) (q : ℕ) (v : Volume) (from to : Path) (n : ℕ) (w : Volume) (d : ℕ) (name : List ℕ) (i : ℕ) → thing (body v 0) ≡ Some ADir → IsIn v from d name (Some i)
+    → (b : Body) → body v i ≡ b → link_file g q v i (target v (way to)) b ≡ Makes n w → LinksOld g q v from to n w
+link-body g q v from to n w d name i root source Free is e = says-makes _ n w e
+link-body g q v from to n w d name i root source (File old) is e = link-to g q v from to n w d name i old root source is (target v (way to)) refl e
+link-body g q v from to n w d name i root source (Dir slots) is e = says-makes _ n w e
+
+link-from : (g : Geometry) (q : ℕ) (v : Volume) (from to : Path) (n : ℕ) (w : Volume) → thing (body v 0) ≡ Some ADir → (t : RequestTarget) → target v (way from) ≡ t → link g q v (target v (way to)) t ≡ Makes n w → LinksOld g q v from to n w
+link-from g q v from to n w root Root is e = says-makes _ n w e
+link-from g q v from to n w root (Lost fault) is e = says-makes _ n w e
+link-from g q v from to n w root (In d name None) is e = says-makes _ n w e
+link-from g q v from to n w root (In d name (Some i)) is e = link-body g q v from to n w d name i root (target-in v from d name (Some i) root is) (body v i) refl e
+
+pub link-makes : (g : Geometry) (q : ℕ) (v : Volume) (from to : Path) (n : ℕ) (w : Volume) → thing (body v 0) ≡ Some ADir → link g q v (target v (way to)) (target v (way from)) ≡ Makes n w → LinksOld g q v from to n w
+link-makes g q v from to n w root e = link-from g q v from to n w root (target v (way from)) refl e
 
 -- ---- an entry that moves
 

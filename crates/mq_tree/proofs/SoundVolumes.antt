@@ -11,11 +11,12 @@ use Rattle.mq_layout.specs.Places.{names_limit}
 use Rattle.mq_layout.specs.Slots.{Entry, IsEntry}
 use Rattle.mq_tree.specs.Free.{free_blocks, grown, needs}
 use Rattle.mq_tree.specs.Requests.{count_names, entry_needs, link_needs, linked, linked_at, unused, with_body}
+use Rattle.mq_tree.specs.Links.{AreCounted, HasLinks}
 use Rattle.mq_tree.specs.Sound.{IsBody, IsNode, IsSound}
 use Rattle.mq_tree.specs.Volume.{ADir, AFile, Body, Free, File, Dir, Node, Volume, body, free_node, is_used, node, Part, Pointers, slot, slots_of, thing}
 use Rattle.mq_tree.proofs.RequestsNodes.{Linked, linked-entries, linked-more, linked-set, unused-none}
 use Rattle.mq_tree.proofs.VolumePaths.{IsTree, thing-used}
-use Rattle.mq_tree.proofs.FreeUses.{IsWithin, grown-is, node-here, node-other, uses-within}
+use Rattle.mq_tree.proofs.FreeUses.{IsWithin, grown-is, links-set, node-here, node-other, uses-within}
 use Rattle.mq_tree.specs.Uses.{AreUses}
 
 -- ---- the parts of a sound volume
@@ -29,7 +30,7 @@ pub sound-tree : (g : Geometry) (v : Volume) → IsSound g v → IsTree v
 sound-tree g v s = record { root = ap (λ (b : Body). thing b) s.root.1; named = s.named; once = s.once; names = s.names; reached = s.reached }
 
 pub sound-nodes : (g : Geometry) (v : Volume) → IsSound g v → AreNodes g v
-sound-nodes g v s = record { nodes = s.nodes; uses = record { zones = s.zones; apart = s.apart } }
+sound-nodes g v s = record { nodes = s.nodes; uses = record { zones = s.zones; apart = s.apart; links = λ i. (s.nodes i).links } }
 
 -- a thing that is a directory has slots
 pub dir-slots : (b : Body) → thing b ≡ Some ADir → (slots : List (Option Entry)) × (b ≡ Dir slots)
@@ -40,8 +41,8 @@ dir-slots (File bytes) e = absurd (file-dir bytes e)
     file-dir bytes e = cc
 dir-slots (Dir slots) e = (slots, refl)
 
-pub volume-sound : (g : Geometry) (v w : Volume) → IsSound g v → length w ≡ length v → IsTree w → AreNodes g w → IsSound g w
-volume-sound g v w s size t n = record {
+pub volume-sound : (g : Geometry) (v w : Volume) → IsSound g v → length w ≡ length v → IsTree w → AreNodes g w → AreCounted w → IsSound g w
+volume-sound g v w s size t n c = record {
   count = size ∙ s.count;
   nodes = n.nodes;
   root = dir-slots (body w 0) t.root;
@@ -51,6 +52,7 @@ volume-sound g v w s size t n = record {
   once = t.once;
   names = t.names;
   reached = t.reached;
+  counted = c;
 }
 
 -- a used inode is one of the volume
@@ -75,6 +77,10 @@ nodes-set v i n l good fine x = elim (cases_eq x i) [
   | inl same ↦ subst (λ m. IsNode m) (sym (ap (λ (y : ℕ). node (set v i n) y) same ∙ node-here v i n l)) fine
   | inr other ↦ subst (λ m. IsNode m) (sym (node-other v i x n other)) (good x other)
 ]
+
+-- nodes in their form that use nothing new
+pub nodes-with : (g : Geometry) (v w : Volume) → AreUses g v → ((x : ℕ) → IsNode (node w x)) → IsWithin w v → AreNodes g w
+nodes-with g v w uses nodes within = record { nodes = nodes; uses = uses-within g v w uses within (λ x. (nodes x).links) }
 
 -- its blocks are some of those that it had
 pub record FewerBlocks (n m : Node) : Type 0 where
@@ -118,6 +124,10 @@ slot-in v d l slots is = ap (λ (b : Body). get_or (slots_of b) l None) is
 pub dir-node : (n : Node) (slots : List (Option Entry)) → n.body ≡ Dir slots → IsNode n → IsBody (Dir slots) (length n.blocks)
 dir-node n slots is good = subst (λ b. IsBody b (length n.blocks)) is good.body
 
+-- a directory has one link
+pub dir-links : (n : Node) (slots : List (Option Entry)) → n.body ≡ Dir slots → IsNode n → n.links ≡ 1
+dir-links n slots is good = subst (λ b. HasLinks b n.links) is good.links
+
 -- ---- an entry more
 
 pub record IsLinked (g : Geometry) (v w : Volume) (d : ℕ) (e : Entry) : Type 0 where
@@ -126,11 +136,12 @@ pub record IsLinked (g : Geometry) (v w : Volume) (d : ℕ) (e : Entry) : Type 0
   pub here : slot w d place ≡ Some e
   pub rest : (x l : ℕ) → (x ≡ d → l ≡ place → ⊥) → slot w x l ≡ slot v x l
   pub things : (x : ℕ) → thing (body w x) ≡ thing (body v x)
+  pub links : (x : ℕ) → (node w x).links ≡ (node v x).links
   pub size : length w ≡ length v
   pub nodes : AreNodes g w
 
-linked-slots : (g : Geometry) (v w : Volume) (d : ℕ) (e : Entry) (slots new : List (Option Entry)) → body v d ≡ Dir slots → Bodies v w d (Dir new) → Linked slots new e → length w ≡ length v → AreNodes g w → IsLinked g v w d e
-linked-slots g v w d e slots new was bodies h size nodes =
+linked-slots : (g : Geometry) (v w : Volume) (d : ℕ) (e : Entry) (slots new : List (Option Entry)) → body v d ≡ Dir slots → Bodies v w d (Dir new) → Linked slots new e → length w ≡ length v → AreNodes g w → ((x : ℕ) → (node w x).links ≡ (node v x).links) → IsLinked g v w d e
+linked-slots g v w d e slots new was bodies h size nodes links =
     let s = slotted v w d slots new was bodies in
     record {
       place = h.place;
@@ -142,6 +153,7 @@ linked-slots g v w d e slots new was bodies h size nodes =
         | inr apart ↦ s.rest x l apart
       ];
       things = s.things;
+      links = links;
       size = size;
       nodes = nodes;
     }
@@ -150,15 +162,12 @@ linked-slots g v w d e slots new was bodies h size nodes =
 linked-here : (g : Geometry) (q : ℕ) (v : Volume) (d k : ℕ) (e : Entry) (slots : List (Option Entry)) → d < length v → body v d ≡ Dir slots → AreNodes g v → IsEntry e → unused 0 slots ≡ Some k
     → IsLinked g v (with_body v d (Dir (set slots k (Some e)))) d e
 linked-here g q v d k e slots l was good fine is =
-    let n : Node = record { body = Dir (set slots k (Some e)); blocks = (node v d).blocks; indirect = (node v d).indirect } in
+    let n : Node = record { body = Dir (set slots k (Some e)); blocks = (node v d).blocks; indirect = (node v d).indirect; links = (node v d).links } in
     let h = linked-set slots k e is in
     let b = dir-node (node v d) slots was (good.nodes d) in
-    let form : IsNode n = record { body = (b.0, length-set slots k (Some e) ∙ b.1, linked-entries slots (set slots k (Some e)) e b.2 fine h); indirect = (good.nodes d).indirect } in
+    let form : IsNode n = record { body = (b.0, length-set slots k (Some e) ∙ b.1, linked-entries slots (set slots k (Some e)) e b.2 fine h); indirect = (good.nodes d).indirect; links = dir-links (node v d) slots was (good.nodes d) } in
     linked-slots g v (set v d n) d e slots (set slots k (Some e)) was (bodies-set v d n l) h (length-set v d n)
-    (record {
-      nodes = nodes-set v d n l (λ x other. good.nodes x) form;
-      uses = uses-within g v (set v d n) good.uses (within-set v d n l (record { blocks = λ j c i. i; pointers = λ c i. i }));
-    })
+    (nodes-with g v (set v d n) good.uses (nodes-set v d n l (λ x other. good.nodes x) form) (within-set v d n l (record { blocks = λ j c i. i; pointers = λ c i. i }))) (links-set v d n l refl)
 
 -- in the first slot of a new block
 linked-new : (g : Geometry) (q : ℕ) (v : Volume) (d : ℕ) (e : Entry) (slots : List (Option Entry)) → q < queues_of g → d < length v → body v d ≡ Dir slots → AreNodes g v → IsEntry e → unused 0 slots ≡ None → count_names slots < names_limit
@@ -170,7 +179,7 @@ linked-new g q v d e slots low l was good fine is few enough =
     let r = grown-is g q v d 1 low l good.uses (good.nodes d).indirect (subst (λ k. needs have k ≤ free_blocks g v) more enough) in
     let size = r.size in
     let new = slots ++ (Some e ∷ replicate 14 None) in
-    let n : Node = record { body = Dir new; blocks = (node u d).blocks; indirect = (node u d).indirect } in
+    let n : Node = record { body = Dir new; blocks = (node u d).blocks; indirect = (node u d).indirect; links = (node u d).links } in
     let h = linked-more slots 14 e in
     let b = dir-node (node v d) slots was (good.nodes d) in
     let all = unused-none 0 slots is in
@@ -178,13 +187,10 @@ linked-new g q v d e slots low l was good fine is few enough =
     let longer = r.longer in
     let low_u : d < length u = omega arith in
     let length_new : length new ≡ length slots + 15 = length-append slots (Some e ∷ replicate 14 None) in
-    let form : IsNode n = record { body = (omega arith, omega arith, linked-entries slots new e b.2 fine h); indirect = r.indirect } in
+    let form : IsNode n = record { body = (omega arith, omega arith, linked-entries slots new e b.2 fine h); indirect = r.indirect; links = r.links d ∙ dir-links (node v d) slots was (good.nodes d) } in
     let set_bodies = bodies-set u d n low_u in
     linked-slots g v (set u d n) d e slots new was (record { here = set_bodies.here; rest = λ x other. set_bodies.rest x other ∙ r.bodies x }) h (length-set u d n ∙ r.size)
-    (record {
-      nodes = nodes-set u d n low_u (λ x other. subst (λ m. IsNode m) (sym (r.rest x other)) (good.nodes x)) form;
-      uses = uses-within g u (set u d n) r.uses (within-set u d n low_u (record { blocks = λ j c i. i; pointers = λ c i. i }));
-    })
+    (nodes-with g u (set u d n) r.uses (nodes-set u d n low_u (λ x other. subst (λ m. IsNode m) (sym (r.rest x other)) (good.nodes x)) form) (within-set u d n low_u (record { blocks = λ j c i. i; pointers = λ c i. i }))) (λ x. links-set u d n low_u refl x ∙ r.links x)
 
 pub linked-is : (g : Geometry) (q : ℕ) (v : Volume) (d : ℕ) (e : Entry) → q < queues_of g → thing (body v d) ≡ Some ADir → AreNodes g v → IsEntry e → count_names (slots_of (body v d)) < names_limit → link_needs (node v d) ≤ free_blocks g v
     → IsLinked g v (linked g q v d e) d e

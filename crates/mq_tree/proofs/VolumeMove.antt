@@ -4,7 +4,7 @@ use Rattle.std.specs.Prelude.{Some, None}
 use Rattle.std.proofs.lemmas.Option.{same_Some}
 use Rattle.mq_layout.specs.Slots.{Entry}
 use Rattle.mq_tree.specs.Volume.{Volume, Way, body, find, inode_at, is_used, slot, slots_of, thing}
-use Rattle.mq_tree.proofs.VolumePaths.{AreNames, AreOnce, AreUsed, IsTree, Slots, cases-slot, find-missing, last-step, next-step, nothing-at, one-way, same-things, same-used, slots-names, slots-once, slots-used, thing_at}
+use Rattle.mq_tree.proofs.VolumePaths.{AreNames, AreOnce, AreUsed, IsTree, Slots, cases-slot, find-missing, last-step, next-step, nothing-at, one-way, same-things, same-used, slot-dir, slots-names, slots-once, slots-used, thing_at}
 use Rattle.mq_tree.proofs.VolumeMake.{New}
 
 -- The entry `e` of slot `k` of `d`, at the end of the way `p`, is `f` in slot `m` of `c`, at the end of
@@ -38,14 +38,15 @@ moved-slots v w d k e p c m f q g h = record {
   new_once = λ x l y n a b s t. (s.0 ∙ sym t.0, s.1 ∙ sym t.1);
   new_name = λ x l n a b s old kept same.
       find-missing f.name (slots_of (body v c)) h.missing n b (ap (λ (y : ℕ). slot v y n) (sym s.0) ∙ old) (sym same ∙ ap (λ (z : Entry). z.name) s.2);
-  new_inode = λ x l y n a b s old kept same.
-      let r = g.once y n d k b e old h.there (sym same ∙ ap (λ (z : Entry). z.inode) s.2 ∙ h.inode) in
+  new_inode = λ x l y n a b s old kept same dir.
+      let r = g.once y n d k b e old h.there (sym same ∙ ap (λ (z : Entry). z.inode) s.2 ∙ h.inode) (sym (h.things b.inode) ∙ ap (λ (j : ℕ). thing (body w j)) (sym same) ∙ dir) in
       kept (r.0, r.1);
   new_used = λ x l a s.
       let u = g.named d k e h.there in
       let i : e.inode ≡ a.inode = sym h.inode ∙ ap (λ (z : Entry). z.inode) (sym s.2) in
       (λ zero. u.0 (i ∙ zero), ap (λ (j : ℕ). is_used (body w j)) (sym i) ∙ same-used (body w e.inode) (body v e.inode) (h.things e.inode) ∙ u.1);
   old_used = λ x l a old kept. same-used (body w a.inode) (body v a.inode) (h.things a.inode) ∙ (g.named x l a old).1;
+  old_dir = λ x l a old kept dir. sym (h.things a.inode) ∙ dir;
 }
 
 pub moved-names : (v w : Volume) (d k : ℕ) (e : Entry) (p : Way) (c m : ℕ) (f : Entry) (q : Way) → IsTree v → IsMoved v w d k e p c m f q → AreNames w
@@ -93,7 +94,7 @@ moved-old v w d k e p c m f q g h (n ∷ s) x out is =
     let a = t.edge in
     let there : slot w t.directory a.place ≡ Some a.entry = h.to t.directory a.place a.entry a.there (λ y l.
     let same = slot-entry v t.directory a.place d k a.entry e a.there h.there y l in
-    let ways = one-way v g.named g.once s p d (t.before ∙ ap (λ (j : ℕ). Some j) y) h.old_way in
+    let ways = one-way v g.named g.once s p d (slot-dir v d k e h.there) (t.before ∙ ap (λ (j : ℕ). Some j) y) h.old_way in
     out [] (cons-way n e.name s p (sym a.named ∙ ap (λ (z : Entry). z.name) same) ways)) in
     let before = moved-old v w d k e p c m f q g h s t.directory (λ r i. out (n ∷ r) (cons-way n n s (r ++ e.name ∷ p) refl i)) t.before in
     next-step w n s t.directory x (moved-names v w d k e p c m f q g h) before (record { place = a.place; entry = a.entry; there = there; named = a.named; leads = a.leads })
@@ -110,13 +111,13 @@ moved-below v w d k e p c m f q g h (n ∷ r) x is =
     let t = last-step v n (r ++ e.name ∷ p) x is in
     let a = t.edge in
     let there : slot w t.directory a.place ≡ Some a.entry = h.to t.directory a.place a.entry a.there (λ y l.
-    longer-way r p e.name (one-way v g.named g.once (r ++ e.name ∷ p) p d (t.before ∙ ap (λ (j : ℕ). Some j) y) h.old_way)) in
+    longer-way r p e.name (one-way v g.named g.once (r ++ e.name ∷ p) p d (slot-dir v d k e h.there) (t.before ∙ ap (λ (j : ℕ). Some j) y) h.old_way)) in
     next-step w n (r ++ f.name ∷ q) t.directory x (moved-names v w d k e p c m f q g h) (moved-below v w d k e p c m f q g h r t.directory t.before) (record { place = a.place; entry = a.entry; there = there; named = a.named; leads = a.leads })
 
 -- in the new slot a way ends just with the new name
 moved-way : (v w : Volume) (d k : ℕ) (e : Entry) (p : Way) (c m : ℕ) (f : Entry) (q : Way) → IsTree v → IsMoved v w d k e p c m f q
     → (s : Way) (x : ℕ) → inode_at w s ≡ Some x → x ≡ c → s ≡ q
-moved-way v w d k e p c m f q g h s x is same = one-way w (moved-used v w d k e p c m f q g h) (moved-once v w d k e p c m f q g h) s q c (is ∙ ap (λ (j : ℕ). Some j) same)
+moved-way v w d k e p c m f q g h s x is same = one-way w (moved-used v w d k e p c m f q g h) (moved-once v w d k e p c m f q g h) s q c (slot-dir w c m f h.here) (is ∙ ap (λ (j : ℕ). Some j) same)
     (moved-old v w d k e p c m f q g h q c h.outside h.new_way)
 
 moved-back : (v w : Volume) (d k : ℕ) (e : Entry) (p : Way) (c m : ℕ) (f : Entry) (q : Way) → IsTree v → IsMoved v w d k e p c m f q

@@ -65,7 +65,7 @@ abbrev pub AreNames : Volume → Type 0
 AreNames v = (d k l : ℕ) (e f : Entry) → slot v d k ≡ Some e → slot v d l ≡ Some f → e.name ≡ f.name → k ≡ l
 
 abbrev pub AreOnce : Volume → Type 0
-AreOnce v = (d k c l : ℕ) (e f : Entry) → slot v d k ≡ Some e → slot v c l ≡ Some f → e.inode ≡ f.inode → (d ≡ c) × (k ≡ l)
+AreOnce v = (d k c l : ℕ) (e f : Entry) → slot v d k ≡ Some e → slot v c l ≡ Some f → e.inode ≡ f.inode → thing (body v e.inode) ≡ Some ADir → (d ≡ c) × (k ≡ l)
 
 abbrev pub AreUsed : Volume → Type 0
 AreUsed v = (d k : ℕ) (e : Entry) → slot v d k ≡ Some e → (e.inode ≢ 0) × (is_used (body v e.inode) ≡ true)
@@ -101,6 +101,24 @@ nothing-free (Dir slots) e = absurd (none-some _ (sym e))
 pub same-used : (b c : Body) → thing b ≡ thing c → is_used b ≡ is_used c
 same-used b c e = used-thing b ∙ ap (λ (o : Option Thing). is_some o) e ∙ sym (used-thing c)
 
+-- a slot that is used is one of a directory
+pub slot-dir : (v : Volume) (d k : ℕ) (e : Entry) → slot v d k ≡ Some e → thing (body v d) ≡ Some ADir
+slot-dir v d k e there = go (body v d) there
+  where
+    go : (b : Body) → get_or (slots_of b) k None ≡ Some e → thing b ≡ Some ADir
+    go Free h = absurd (none-some e h)
+    go (File bytes) h = absurd (none-some e h)
+    go (Dir slots) h = refl
+
+-- what is no directory has no used slot
+pub no-slot : (b : Body) (l : ℕ) → (thing b ≢ Some ADir) → get_or (slots_of b) l None ≡ None
+no-slot Free l other = refl
+no-slot (File bytes) l other = refl
+no-slot (Dir slots) l other = absurd (other refl)
+
+pub file-dir : (bytes : List ℕ) → Some (AFile bytes) ≢ Some ADir
+file-dir bytes e = cc
+
 -- ---- steps of a path
 
 abbrev pub Edge : Volume → ℕ → List ℕ → ℕ → Type 0
@@ -121,21 +139,21 @@ next-step v name q d i names e edge = ap (λ (o : Option ℕ). option_and_then (
 pub edge-not_root : (v : Volume) (d : ℕ) (name : List ℕ) (i : ℕ) → AreUsed v → Edge v d name i → i ≢ 0
 edge-not_root v d name i named edge e = (named d edge.place edge.entry edge.there).0 (edge.leads ∙ e)
 
--- no inode has two paths
-pub one-way : (v : Volume) → AreUsed v → AreOnce v → (p q : Way) (i : ℕ) → inode_at v p ≡ Some i → inode_at v q ≡ Some i → p ≡ q
-one-way v named once [] [] i e f = refl
-one-way v named once [] (n ∷ q) i e f = let s = last-step v n q i f in absurd (edge-not_root v s.directory n i named s.edge (sym (same_Some 0 i e)))
-one-way v named once (n ∷ p) [] i e f = let s = last-step v n p i e in absurd (edge-not_root v s.directory n i named s.edge (sym (same_Some 0 i f)))
-one-way v named once (n ∷ p) (m ∷ q) i e f =
+-- no directory has two paths
+pub one-way : (v : Volume) → AreUsed v → AreOnce v → (p q : Way) (i : ℕ) → thing (body v i) ≡ Some ADir → inode_at v p ≡ Some i → inode_at v q ≡ Some i → p ≡ q
+one-way v named once [] [] i dir e f = refl
+one-way v named once [] (n ∷ q) i dir e f = let s = last-step v n q i f in absurd (edge-not_root v s.directory n i named s.edge (sym (same_Some 0 i e)))
+one-way v named once (n ∷ p) [] i dir e f = let s = last-step v n p i e in absurd (edge-not_root v s.directory n i named s.edge (sym (same_Some 0 i f)))
+one-way v named once (n ∷ p) (m ∷ q) i dir e f =
     let s = last-step v n p i e in
     let u = last-step v m q i f in
     let a = s.edge in
     let b = u.edge in
-    let same = once s.directory a.place u.directory b.place a.entry b.entry a.there b.there (a.leads ∙ sym b.leads) in
+    let same = once s.directory a.place u.directory b.place a.entry b.entry a.there b.there (a.leads ∙ sym b.leads) (ap (λ (x : ℕ). thing (body v x)) a.leads ∙ dir) in
     let slots : get_or (slots_of (body v u.directory)) a.place None ≡ Some a.entry = ap (λ (d : ℕ). slot v d a.place) (sym same.0) ∙ a.there in
     let entries = same-entry (slots_of (body v u.directory)) a.place b.place a.entry b.entry slots b.there same.1 in
     let names : n ≡ m = sym a.named ∙ ap (λ (x : Entry). x.name) entries ∙ b.named in
-    let rest = one-way v named once p q s.directory s.before (u.before ∙ ap (λ (d : ℕ). Some d) (sym same.0)) in
+    let rest = one-way v named once p q s.directory (slot-dir v s.directory a.place a.entry a.there) s.before (u.before ∙ ap (λ (d : ℕ). Some d) (sym same.0)) in
     ap (λ (x : List ℕ). x ∷ p) names ∙ ap (λ (r : Way). m ∷ r) rest
 
 -- what a path leads to is used
@@ -184,9 +202,10 @@ pub record Slots (v w : Volume) (New : ℕ → ℕ → Entry → Type 0) (Gone :
   pub from : (x l : ℕ) (f : Entry) → slot w x l ≡ Some f → New x l f ⊎ ((slot v x l ≡ Some f) × (Gone x l → ⊥))
   pub new_once : (x l y m : ℕ) (e f : Entry) → New x l e → New y m f → (x ≡ y) × (l ≡ m)
   pub new_name : (x l m : ℕ) (e f : Entry) → New x l e → slot v x m ≡ Some f → (Gone x m → ⊥) → e.name ≢ f.name
-  pub new_inode : (x l y m : ℕ) (e f : Entry) → New x l e → slot v y m ≡ Some f → (Gone y m → ⊥) → e.inode ≢ f.inode
+  pub new_inode : (x l y m : ℕ) (e f : Entry) → New x l e → slot v y m ≡ Some f → (Gone y m → ⊥) → e.inode ≡ f.inode → thing (body w e.inode) ≢ Some ADir
   pub new_used : (x l : ℕ) (e : Entry) → New x l e → (e.inode ≢ 0) × (is_used (body w e.inode) ≡ true)
   pub old_used : (x l : ℕ) (e : Entry) → slot v x l ≡ Some e → (Gone x l → ⊥) → is_used (body w e.inode) ≡ true
+  pub old_dir : (x l : ℕ) (e : Entry) → slot v x l ≡ Some e → (Gone x l → ⊥) → thing (body w e.inode) ≡ Some ADir → thing (body v e.inode) ≡ Some ADir
 
 pub slots-names : (v w : Volume) (New : ℕ → ℕ → Entry → Type 0) (Gone : ℕ → ℕ → Type 0) → IsTree v → Slots v w New Gone → AreNames w
 slots-names v w New Gone t s d k l e f h i same = elim (s.from d k e h) [
@@ -201,14 +220,14 @@ slots-names v w New Gone t s d k l e f h i same = elim (s.from d k e h) [
 ]
 
 pub slots-once : (v w : Volume) (New : ℕ → ℕ → Entry → Type 0) (Gone : ℕ → ℕ → Type 0) → IsTree v → Slots v w New Gone → AreOnce w
-slots-once v w New Gone t s d k c l e f h i same = elim (s.from d k e h) [
+slots-once v w New Gone t s d k c l e f h i same dir = elim (s.from d k e h) [
   | inl new ↦ elim (s.from c l f i) [
     | inl other ↦ s.new_once d k c l e f new other
-    | inr old ↦ absurd (s.new_inode d k c l e f new old.0 old.1 same)
+    | inr old ↦ absurd (s.new_inode d k c l e f new old.0 old.1 same dir)
   ]
   | inr old ↦ elim (s.from c l f i) [
-    | inl new ↦ absurd (s.new_inode c l d k f e new old.0 old.1 (sym same))
-    | inr other ↦ t.once d k c l e f old.0 other.0 same
+    | inl new ↦ absurd (s.new_inode c l d k f e new old.0 old.1 (sym same) (ap (λ (x : ℕ). thing (body w x)) (sym same) ∙ dir))
+    | inr other ↦ t.once d k c l e f old.0 other.0 same (s.old_dir d k e old.0 old.1 dir)
   ]
 ]
 

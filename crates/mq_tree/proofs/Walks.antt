@@ -12,11 +12,11 @@ use Rattle.mq_layout.specs.declared.inode.Inode.{Inode}
 use Rattle.mq_tree.specs.Clean.{AreNamed, AreOnce, ArePointers, AreReached, IsTable}
 use Rattle.mq_tree.specs.Corrupt.{IsCorrupt, lost_inode, shared_inode}
 use Rattle.mq_tree.specs.Decoded.{Stored, body_of, count_of, entry_of, inodes_in, the_inode, volume_in}
-use Rattle.mq_tree.specs.Volume.{Body, Free, File, Dir, Node, Volume, Way, body, find, inode_at, is_used, slot, slots_of}
+use Rattle.mq_tree.specs.Volume.{ADir, AFile, Body, Free, File, Dir, Node, Volume, Way, body, find, inode_at, is_used, slot, slots_of, thing}
 use Rattle.mq_tree.specs.Walks.{Finds, IsLooked, IsOrder, IsWalk, IsWholeWalk, Starts, Walked, is_seen, weight}
 use Rattle.mq_tree.specs.declared.corrupt.CorruptCause.TheVariants.{Shared, Unreached}
 use Rattle.mq_tree.proofs.Directories.{find-none, find-some}
-use Rattle.mq_tree.proofs.Decoded.{body-dir, body-in, node-past, table-at}
+use Rattle.mq_tree.proofs.Decoded.{body-dir, body-file, body-free, body-in, node-past, table-at}
 use Rattle.mq_tree.proofs.DecodedMounting.{length-inodes}
 use Rattle.mq_tree.proofs.DecodedNaming.{slot-found, slot-in}
 use Rattle.mq_tree.proofs.Parts.{used-kind}
@@ -113,15 +113,39 @@ walk-mark v seen looked next d k e names w back on now there way new inside =
         | inl q ↦ (d, k, e, now, there, sym q)
         | inr n ↦ let m = w.named i (was i n t) some in (m.0, m.1, m.2, on m.0 m.1 m.3, m.4, m.5)
       ];
-      once = λ c l a m f h x y p q r. elim (back c l x) [
+      once = λ c l a m f h x y p q r dir. elim (back c l x) [
         | inl old ↦ elim (back a m y) [
-          | inl too ↦ w.once c l a m f h old too p q r
+          | inl too ↦ w.once c l a m f h old too p q r dir
           | inr z ↦ absurd (clash c l f old p (r ∙ ap (λ (y : Entry). y.inode) (sym (same a m h z.0 z.1 q))))
         ]
         | inr z ↦ elim (back a m y) [
           | inl too ↦ absurd (clash a m h too q (sym r ∙ ap (λ (y : Entry). y.inode) (sym (same c l f z.0 z.1 p))))
           | inr u ↦ (sym z.0 ∙ u.0, z.1 ∙ sym u.1)
         ]
+      ];
+    }
+
+-- the slot names an inode that was seen, and is no directory
+walk-again : (v : Volume) (seen : List Bool) (looked next : ℕ → ℕ → Type 0) (d k : ℕ) (e : Entry) → IsWalk v seen looked → ((c l : ℕ) → next c l → looked c l ⊎ ((d ≡ c) × (l ≡ k))) → ((c l : ℕ) → looked c l → next c l)
+    → slot v d k ≡ Some e → is_seen seen e.inode ≡ true → thing (body v e.inode) ≢ Some ADir → IsWalk v seen next
+walk-again v seen looked next d k e w back on there was file =
+    let same : (c l : ℕ) (f : Entry) → d ≡ c → l ≡ k → slot v c l ≡ Some f → e ≡ f = λ c l f x y h. (let g = sym there ∙ ap (λ (a : ℕ). slot v a k) x ∙ ap (λ (b : ℕ). slot v c b) (sym y) ∙ h in cc) in
+    -- the slot names no directory
+    let other : (c l : ℕ) (f : Entry) → (d ≡ c) × (l ≡ k) → slot v c l ≡ Some f → thing (body v f.inode) ≢ Some ADir = λ c l f z h dir. file (ap (λ (y : Entry). thing (body v y.inode)) (same c l f z.0 z.1 h) ∙ dir) in
+    record {
+      reached = w.reached;
+      root = w.root;
+      closed = λ c l f x h. elim (back c l x) [
+        | inl old ↦ w.closed c l f old h
+        | inr q ↦ subst (λ y. is_seen seen y ≡ true) (ap (λ (y : Entry). y.inode) (same c l f q.0 q.1 h)) was
+      ];
+      named = λ i t some. let n = w.named i t some in (n.0, n.1, n.2, on n.0 n.1 n.3, n.4, n.5);
+      once = λ c l a m f h x y p q r dir. elim (back c l x) [
+        | inl old ↦ elim (back a m y) [
+          | inl too ↦ w.once c l a m f h old too p q r dir
+          | inr z ↦ absurd (other a m h z q (ap (λ (j : ℕ). thing (body v j)) (sym r) ∙ dir))
+        ]
+        | inr z ↦ absurd (other c l f z p dir)
       ];
     }
 
@@ -251,6 +275,17 @@ walked-mark v count seen order done part d e names w inside is there new low =
       walk = walk-mark v seen (IsLooked order done part) (IsLooked (order ++ e.inode ∷ []) done (part + 1)) d part e names w.walk back on now there found new (let s = w.listing.size in omega arith);
     }
 
+-- the slot names a file that was seen
+pub walked-again : (v : Volume) (count : ℕ) (seen : List Bool) (order : List ℕ) (done part d : ℕ) (e : Entry) → Walked v count seen order done part → d ≡ get_or order done 0 → slot v d part ≡ Some e → is_seen seen e.inode ≡ true → thing (body v e.inode) ≢ Some ADir
+    → Walked v count seen order done (part + 1)
+walked-again v count seen order done part d e w is there was file = record {
+  listing = w.listing;
+  walk = walk-again v seen (IsLooked order done part) (IsLooked order done (part + 1)) d part e w.walk (λ c l x. elim (looked-more order done part c l x) [
+    | inl old ↦ inl old
+    | inr q ↦ inr (is ∙ q.0, q.1)
+  ]) (more-looked order done part) there was file;
+}
+
 -- all its slots were looked at
 pub walked-next : (v : Volume) (count : ℕ) (seen : List Bool) (order : List ℕ) (done part d : ℕ) → Walked v count seen order done part → d ≡ get_or order done 0 → ((k : ℕ) (e : Entry) → slot v d k ≡ Some e → k < part) → Walked v count seen order (done + 1) 0
 walked-next v count seen order done part d w is all = record {
@@ -277,13 +312,13 @@ used-below g s i t = elim (cases_lt i (inodes_of g)) [
 
 -- an inode that was seen is named twice
 pub walked-shared : (g : Geometry) (s : Stored) (seen : List Bool) (order : List ℕ) (done part d b : ℕ) (e : Entry) → IsTable g s → ArePointers g s → AreNamed (volume_in g s) → Walked (volume_in g s) (inodes_of g) seen order done part → done < length order → d ≡ get_or order done 0
-    → slot (volume_in g s) d part ≡ Some e → is_seen seen e.inode ≡ true → b ≡ inode_block g e.inode → IsCorrupt g s Shared b
-walked-shared g s seen order done part d b e table pointers named w inside is there old at =
+    → slot (volume_in g s) d part ≡ Some e → is_seen seen e.inode ≡ true → thing (body (volume_in g s) e.inode) ≡ Some ADir → b ≡ inode_block g e.inode → IsCorrupt g s Shared b
+walked-shared g s seen order done part d b e table pointers named w inside is there old dir at =
     let n = named d part e there in
     let m = w.walk.named e.inode old n.0 in
     let here = slot-in g s d part e table pointers there in
     let other = slot-in g s m.0 m.1 m.2 table pointers m.4 in
-    shared_inode d part m.0 m.1 _ _ e m.2 here other (sym m.5) (λ q. not-yet (subst (λ l. IsLooked order done part d l) (sym q.1) (subst (λ c. IsLooked order done part c m.1) (sym q.0) m.3))) (used-below g s e.inode n.1) at
+    shared_inode d part m.0 m.1 _ _ e m.2 here other (sym m.5) dir (λ q. not-yet (subst (λ l. IsLooked order done part d l) (sym q.1) (subst (λ c. IsLooked order done part c m.1) (sym q.0) m.3))) (used-below g s e.inode n.1) at
   where
     not-yet : IsLooked order done part d part → ⊥
     not-yet (inl h) = absurd (let l = h.1 in let q = w.listing.apart h.0 done (omega arith) inside (h.2 ∙ is) in omega arith)
@@ -351,22 +386,49 @@ pub visit-skip : (g : Geometry) (s : Stored) (seen now : List Bool) (order next 
 visit-skip g s seen now order next done part d n h low e two inside none p q =
     rw (p, q) (walked-skip (volume_in g s) (inodes_of g) seen order done part d h.0 h.2 (slot-entry g s d part n low e two inside ∙ none), h.1, h.2)
 
-pub visit-found : (g : Geometry) (s : Stored) (seen after now : List Bool) (order more next : List ℕ) (done part d : ℕ) (n : Inode) (e : Entry) (t : Bool) → AreOnce (volume_in g s) → AreNamed (volume_in g s) → Visits g s seen order done part d → d < inodes_of g → n ≡ the_inode g s d → n.kind ≡ 2
-    → part < 15 * count_of n → entry_of s n part ≡ Some e → Finds t e.inode seen order after more → t ≡ true → now ≡ after → next ≡ more → Visits g s now next done (part + 1) d
-visit-found g s seen after now order more next done part d n e false once named h low same two inside there f is p q = absurd (true≢false (sym is))
-visit-found g s seen after now order more next done part d n e true once named h low same two inside there f is p q =
+-- whether an inode is a directory
+dir-is : (g : Geometry) (s : Stored) (i : ℕ) → i < inodes_of g → (the_inode g s i).kind ≡ 2 → thing (body (volume_in g s) i) ≡ Some ADir
+dir-is g s i low two = ap (λ (b : Body). thing b) (body-in g s i low ∙ body-dir s (the_inode g s i) two)
+
+not-dir : (g : Geometry) (s : Stored) (i : ℕ) → IsTable g s → i < inodes_of g → (the_inode g s i).kind ≢ 2 → thing (body (volume_in g s) i) ≢ Some ADir
+not-dir g s i table low other dir =
+    let n = the_inode g s i in
+    let kind = (table.inodes i low).0.kind in
+    let is : thing (body_of s n) ≡ Some ADir = ap (λ (b : Body). thing b) (sym (body-in g s i low)) ∙ dir in
+    elim (cases_eq n.kind 1) [
+      | inl one ↦ let e : Some (AFile _) ≡ Some ADir = ap (λ (b : Body). thing b) (sym (body-file s n one)) ∙ is in cc
+      | inr rest ↦ let e : None ≡ Some ADir = ap (λ (b : Body). thing b) (sym (body-free s n (omega arith))) ∙ is in cc
+    ]
+
+pub visit-found : (g : Geometry) (s : Stored) (seen after now : List Bool) (order more next : List ℕ) (done part d kind : ℕ) (n : Inode) (e : Entry) (t : Bool) → IsTable g s → kind ≡ (the_inode g s e.inode).kind → AreOnce (volume_in g s) → AreNamed (volume_in g s) → Visits g s seen order done part d → d < inodes_of g → n ≡ the_inode g s d → n.kind ≡ 2
+    → part < 15 * count_of n → entry_of s n part ≡ Some e → Finds t e.inode kind seen order after more → t ≡ true → now ≡ after → next ≡ more → Visits g s now next done (part + 1) d
+visit-found g s seen after now order more next done part d kind n e false table says once named h low same two inside there f is p q = absurd (true≢false (sym is))
+visit-found g s seen after now order more next done part d kind n e true table says once named h low same two inside there (inr f) is p q =
+    let at : slot (volume_in g s) d part ≡ Some e = slot-entry g s d part n low same two inside ∙ there in
+    let file = not-dir g s e.inode table (used-below g s e.inode (named d part e at).1) (λ z. f.1 (says ∙ z)) in
+    rw (p ∙ f.2, q ∙ f.3) (walked-again (volume_in g s) (inodes_of g) seen order done part d e h.0 h.2 at f.0 file, h.1, h.2)
+visit-found g s seen after now order more next done part d kind n e true table says once named h low same two inside there (inl f) is p q =
     let at : slot (volume_in g s) d part ≡ Some e = slot-entry g s d part n low same two inside ∙ there in
     let w = walked-mark (volume_in g s) (inodes_of g) seen order done part d e once h.0 h.1 h.2 at f.0 (used-below g s e.inode (named d part e at).1) in
     let grown = length_push order e.inode in
     let l = h.1 in
     rw (p ∙ f.1, q ∙ f.2) (w, (let r : done < length (order ++ e.inode ∷ []) = omega arith in r), h.2 ∙ sym (pushed order e.inode done done h.1 (omega arith)))
 
-pub visit-shared : (g : Geometry) (s : Stored) (seen after : List Bool) (order more : List ℕ) (done part d b : ℕ) (n : Inode) (e : Entry) (t : Bool) → IsTable g s → ArePointers g s → AreNamed (volume_in g s) → Visits g s seen order done part d → d < inodes_of g → n ≡ the_inode g s d → n.kind ≡ 2 → part < 15 * count_of n → entry_of s n part ≡ Some e
-    → Finds t e.inode seen order after more → t ≡ false → b ≡ inode_block g e.inode → IsCorrupt g s Shared b
-visit-shared g s seen after order more done part d b n e true table pointers named h low same two inside there f is at = absurd (true≢false is)
-visit-shared g s seen after order more done part d b n e false table pointers named h low same two inside there f is at =
-    walked-shared g s seen order done part d b e table pointers named h.0 h.1 h.2 (slot-entry g s d part n low same two inside ∙ there) f.0 at
+pub visit-shared : (g : Geometry) (s : Stored) (seen after : List Bool) (order more : List ℕ) (done part d b kind : ℕ) (n : Inode) (e : Entry) (t : Bool) → IsTable g s → kind ≡ (the_inode g s e.inode).kind → ArePointers g s → AreNamed (volume_in g s) → Visits g s seen order done part d → d < inodes_of g → n ≡ the_inode g s d → n.kind ≡ 2 → part < 15 * count_of n → entry_of s n part ≡ Some e
+    → Finds t e.inode kind seen order after more → t ≡ false → b ≡ inode_block g e.inode → IsCorrupt g s Shared b
+visit-shared g s seen after order more done part d b kind n e true table says pointers named h low same two inside there f is at = absurd (true≢false is)
+visit-shared g s seen after order more done part d b kind n e false table says pointers named h low same two inside there f is at =
+    let there_is : slot (volume_in g s) d part ≡ Some e = slot-entry g s d part n low same two inside ∙ there in
+    let dir = dir-is g s e.inode (used-below g s e.inode (named d part e there_is).1) (sym says ∙ f.1) in
+    walked-shared g s seen order done part d b e table pointers named h.0 h.1 h.2 there_is f.0 dir at
 
 -- a slot names an inode of the table
 pub visit-inside : (g : Geometry) (s : Stored) (seen : List Bool) (order : List ℕ) (done part d : ℕ) (n : Inode) (e : Entry) → AreNamed (volume_in g s) → Visits g s seen order done part d → d < inodes_of g → n ≡ the_inode g s d → n.kind ≡ 2 → part < 15 * count_of n → entry_of s n part ≡ Some e → e.inode < length seen
 visit-inside g s seen order done part d n e named h low same two inside there = let l = used-below g s e.inode (named d part e (slot-entry g s d part n low same two inside ∙ there)).1 in let z = h.0.listing.size in omega arith
+
+pub visit-known : (g : Geometry) (s : Stored) (seen : List Bool) (order : List ℕ) (done part d : ℕ) (n : Inode) (e : Entry) (xs : List Inode) → AreNamed (volume_in g s) → Visits g s seen order done part d → d < inodes_of g → n ≡ the_inode g s d → n.kind ≡ 2 → part < 15 * count_of n → entry_of s n part ≡ Some e → xs ≡ inodes_in g s → e.inode < length xs
+visit-known g s seen order done part d n e xs named h low same two inside there is =
+    let l = used-below g s e.inode (named d part e (slot-entry g s d part n low same two inside ∙ there)).1 in
+    let k = ap length is in
+    let m = length-inodes g s in
+    omega arith

@@ -13,7 +13,8 @@ use Rattle.mq_layout.specs.Superblock.{super_bytes}
 use Rattle.mq_layout.specs.declared.inode.Inode.{Inode}
 use Rattle.mq_tree.specs.Decoded.{Stored, byte_of, count_of, part, pointer_to, slot_of, the_inode, volume_in}
 use Rattle.mq_tree.specs.Laid.{ShowsMarks, inode_marked, zone_marked}
-use Rattle.mq_tree.specs.Volume.{Use, Volume, Way, block_in, body, inode_at, is_used, slot}
+use Rattle.mq_tree.specs.Links.{links_to}
+use Rattle.mq_tree.specs.Volume.{ADir, Use, Volume, Way, block_in, body, inode_at, is_used, slot, thing}
 
 -- no bit of a bitmap from this one on is set
 abbrev pub NoneFrom : List ℕ → (first : ℕ) → Type 0
@@ -67,11 +68,17 @@ AreNamed v = (d k : ℕ) (e : Entry) → slot v d k ≡ Some e → (e.inode ≢ 
 abbrev pub AreOnce : Volume → Type 0
 AreOnce v = (d k l : ℕ) (e f : Entry) → slot v d k ≡ Some e → slot v d l ≡ Some f → e.name ≡ f.name → k ≡ l
 
--- a path leads to each used inode, and one slot alone names it
+-- a path leads to each used inode, and one slot alone names a directory
 pub record AreReached (v : Volume) : Type 0 where
   pub once : (d k c l : ℕ) (e f : Entry) → slot v d k ≡ Some e → slot v c l ≡ Some f → e.inode ≡ f.inode
-      → (d ≡ c) × (k ≡ l)
+      → thing (body v e.inode) ≡ Some ADir → (d ≡ c) × (k ≡ l)
   pub reached : (i : ℕ) → is_used (body v i) ≡ true → (way : Way) × (inode_at v way ≡ Some i)
+
+-- a file's links are as many as the slots that name it
+abbrev pub AreLinked : Geometry → Stored → Type 0
+AreLinked g s =
+    (i : ℕ) → i < inodes_of g → (the_inode g s i).kind ≡ 1
+    → (the_inode g s i).links ≡ links_to (volume_in g s) i
 
 -- just what is used is marked
 pub record AreMarked (g : Geometry) (s : Stored) : Type 0 where
@@ -93,5 +100,6 @@ pub record IsClean (g : Geometry) (s : Stored) : Type 0 where
   pub named : AreNamed (volume_in g s)
   pub names : AreOnce (volume_in g s)
   pub reached : AreReached (volume_in g s)
+  pub linked : AreLinked g s
   pub marked : AreMarked g s
   pub ended : AreEnded g s

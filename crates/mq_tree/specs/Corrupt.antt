@@ -12,9 +12,10 @@ use Rattle.mq_layout.specs.declared.refusal.LayoutRefusal.{LayoutRefusal}
 use Rattle.mq_tree.specs.Clean.{IsInZone}
 use Rattle.mq_tree.specs.Decoded.{Stored, byte_of, count_of, pointer_to, the_inode, volume_in}
 use Rattle.mq_tree.specs.Laid.{zone_block}
-use Rattle.mq_tree.specs.Volume.{Use, Part, Pointers, Way, block_in, body, inode_at, is_taken, is_used, slot}
+use Rattle.mq_tree.specs.Links.{links_to}
+use Rattle.mq_tree.specs.Volume.{ADir, Use, Part, Pointers, Way, block_in, body, inode_at, is_taken, is_used, slot, thing}
 use Rattle.mq_tree.specs.declared.corrupt.CorruptCause.{CorruptCause}
-use Rattle.mq_tree.specs.declared.corrupt.CorruptCause.TheVariants.{Layout, Pointer, Unmarked, Shared, Twin, Unreached, Kind, Tail}
+use Rattle.mq_tree.specs.declared.corrupt.CorruptCause.TheVariants.{Layout, Pointer, Unmarked, Shared, Count, Twin, Unreached, Kind, Tail}
 use Rattle.mq_tree.specs.declared.corrupt.MountRefusal.{MountRefusal}
 use Rattle.mq_tree.specs.declared.corrupt.MountRefusal.TheVariants.{Corrupt, OutOfMemory}
 
@@ -101,10 +102,19 @@ pub record IsTwin (g : Geometry) (s : Stored) (b : ℕ) : Type 0 where
 
 pub data IsShared (g : Geometry) (s : Stored) (b : ℕ) : Type 0 where
   shared_block : (u w : Use) → IsUsedFor g s u b → IsUsedFor g s w b → u ≢ w → IsShared g s b
-  -- two slots name an inode of this block
+  -- two slots name a directory, whose inode is in this block
   shared_inode : (d k c l x y : ℕ) (e f : Entry) → IsSlotIn g s d k e x → IsSlotIn g s c l f y
-      → e.inode ≡ f.inode → ((d ≡ c) × (k ≡ l) → ⊥) → e.inode < inodes_of g → b ≡ inode_block g e.inode
+      → e.inode ≡ f.inode → thing (body (volume_in g s) e.inode) ≡ Some ADir
+      → ((d ≡ c) × (k ≡ l) → ⊥) → e.inode < inodes_of g → b ≡ inode_block g e.inode
       → IsShared g s b
+
+-- the links of a file of this block are not as many as the slots that name it
+pub record IsMiscounted (g : Geometry) (s : Stored) (b : ℕ) : Type 0 where
+  pub i : ℕ
+  pub low : i < inodes_of g
+  pub file : (the_inode g s i).kind ≡ 1
+  pub at : b ≡ inode_block g i
+  pub other : (the_inode g s i).links ≢ links_to (volume_in g s) i
 
 pub data IsUnmarked (g : Geometry) (s : Stored) (b : ℕ) : Type 0 where
   unmarked_block : (zone k : ℕ) (u : Use) → zone < queues_of g → k < zone_size g → b ≡ zone_bitmap zone
@@ -137,6 +147,7 @@ IsCorrupt g s Layout b = BadLayout g s b
 IsCorrupt g s Pointer b = BadPointer g s b
 IsCorrupt g s Unmarked b = IsUnmarked g s b
 IsCorrupt g s Shared b = IsShared g s b
+IsCorrupt g s Count b = IsMiscounted g s b
 IsCorrupt g s Twin b = IsTwin g s b
 IsCorrupt g s Unreached b = IsUnreached g s b
 IsCorrupt g s Kind b = BadKind g s b

@@ -65,6 +65,7 @@ node_of s n = record {
   body = body_of s n;
   blocks = table_of (count_of n) (pointer_to s n);
   indirect = if nat_lt 12 (count_of n) then Some n.indirect else None;
+  links = n.links;
 }
 
 unfoldable pub inodes_in : Geometry → Stored → List Inode

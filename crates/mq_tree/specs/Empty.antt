@@ -8,7 +8,7 @@ use Rattle.mq_tree.specs.Volume.{Dir, Node, Volume, free_node}
 
 -- a directory without blocks
 abbrev pub empty_node : Node
-empty_node = record { body = Dir []; blocks = []; indirect = None }
+empty_node = record { body = Dir []; blocks = []; indirect = None; links = 1 }
 
 -- its root is used, and no other inode
 abbrev pub empty_volume : Geometry → Volume

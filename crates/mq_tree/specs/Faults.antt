@@ -4,13 +4,14 @@ use Rattle.mq_blocks.specs.declared.geometry.Geometry.{Geometry}
 use Rattle.mq_layout.specs.Places.{file_limit, names_limit}
 use Rattle.mq_tree.specs.Free.{first_free, free_blocks}
 use Rattle.mq_tree.specs.Kept.{IsBare}
-use Rattle.mq_tree.specs.Requests.{Makes, act, is_below, step}
-use Rattle.mq_tree.specs.Volume.{ADir, AFile, Path, Thing, Volume, tree}
+use Rattle.mq_tree.specs.Links.{links_to}
+use Rattle.mq_tree.specs.Requests.{Makes, act, is_below, links_limit, step}
+use Rattle.mq_tree.specs.Volume.{ADir, AFile, Path, Thing, Volume, inode_at, tree, way}
 use Rattle.mq_tree.specs.declared.request.Fault.{Fault}
-use Rattle.mq_tree.specs.declared.request.Fault.TheVariants.{NotFound, Exists, NotDir, IsDir, NotEmpty, BadName, TooBig, Subtree, NoSpace, NoInodes}
+use Rattle.mq_tree.specs.declared.request.Fault.TheVariants.{NotFound, Exists, NotDir, IsDir, NotEmpty, BadName, TooBig, Subtree, NoSpace, NoInodes, Links}
 use Rattle.mq_tree.specs.declared.request.Reply.TheVariants.{Dir as Count}
 use Rattle.mq_tree.specs.declared.request.Request.{Request}
-use Rattle.mq_tree.specs.declared.request.Request.TheVariants.{Mkdir, Create, Write, Truncate, Unlink, Rmdir, Rename, Read, List as ListOf, Stat}
+use Rattle.mq_tree.specs.declared.request.Request.TheVariants.{Mkdir, Create, Write, Truncate, Unlink, Rmdir, Rename, Link, Read, List as ListOf, Stat}
 
 -- why a walk does not go on from here
 abbrev pub IsEnd : Option Thing → Fault → Type 0
@@ -77,6 +78,13 @@ IsRenameFault v from to fault =
     ⊎ (IsUnfound v from fault
     ⊎ ((there : Thing) × (from ≢ []) × (tree v from ≡ Some there) × IsMoveFault v from to fault))
 
+-- nothing that has a path may have it as a further one
+abbrev pub IsLinkFault : Volume → (from to : Path) → Fault → Type 0
+IsLinkFault v from to fault =
+    IsUnfound v from fault
+    ⊎ (IsDirFault v from fault
+    ⊎ ((old : List ℕ) × (tree v from ≡ Some (AFile old)) × IsAddFault v to fault))
+
 -- a request with good names is refused by what stands at its paths
 abbrev pub IsFault : Volume → Request → Fault → Type 0
 IsFault v (Mkdir p) fault = IsAddFault v p fault
@@ -86,6 +94,7 @@ IsFault v (Truncate p size) fault = IsSizeFault v p size fault
 IsFault v (Unlink p) fault = IsUnfound v p fault ⊎ IsDirFault v p fault
 IsFault v (Rmdir p) fault = IsRmdirFault v p fault
 IsFault v (Rename p q) fault = IsRenameFault v p q fault
+IsFault v (Link p q) fault = IsLinkFault v p q fault
 IsFault v (Read p at count) fault = IsUnfound v p fault ⊎ IsDirFault v p fault
 IsFault v (ListOf p) fault = IsUnfound v p fault ⊎ IsFileFault v p fault
 IsFault v (Stat p) fault = IsUnfound v p fault
@@ -123,6 +132,18 @@ pub record IsMoveFull (g : Geometry) (q : ℕ) (v : Volume) (from to : Path) (fa
   pub full : IsFullDir g q v missing.parent
   pub fault_is : fault ≡ TooBig
 
+-- the file at the path has as many names as it may have
+abbrev pub HasMostNames : Volume → Path → Type 0
+HasMostNames v path = (i : ℕ) × (inode_at v (way path) ≡ Some i) × (links_limit ≤ links_to v i)
+
+-- nothing is in the way of a further name for a file, but the directory or the file has no room for it
+pub record IsLinkFull (g : Geometry) (q : ℕ) (v : Volume) (from to : Path) (fault : Fault) : Type 0 where
+  pub old : List ℕ
+  pub there : tree v from ≡ Some (AFile old)
+  pub missing : IsMissing v to
+  pub full : (IsFullDir g q v missing.parent × (fault ≡ TooBig))
+      ⊎ ((IsFullDir g q v missing.parent → ⊥) × HasMostNames v from × (fault ≡ Links))
+
 -- nothing is in the way of a request, but there is no room
 abbrev pub IsFull : Geometry → (queue : ℕ) → Volume → Request → Fault → Type 0
 IsFull g q v (Mkdir p) fault = IsAddFull g q v p fault ⊎ IsSpaceFault g q v (Mkdir p) fault
@@ -132,6 +153,7 @@ IsFull g q v (Truncate p size) fault = IsSpaceFault g q v (Truncate p size) faul
 IsFull g q v (Unlink p) fault = ⊥
 IsFull g q v (Rmdir p) fault = ⊥
 IsFull g q v (Rename p to) fault = IsMoveFull g q v p to fault ⊎ IsSpaceFault g q v (Rename p to) fault
+IsFull g q v (Link p to) fault = IsLinkFull g q v p to fault ⊎ IsSpaceFault g q v (Link p to) fault
 IsFull g q v (Read p at count) fault = ⊥
 IsFull g q v (ListOf p) fault = ⊥
 IsFull g q v (Stat p) fault = ⊥

@@ -46,12 +46,19 @@ with_block v i (Some b) =
       body = (node v i).body;
       blocks = (node v i).blocks ++ b ∷ [];
       indirect = (node v i).indirect;
+      links = (node v i).links;
     })
 
 abbrev pub with_pointers : Volume → ℕ → Option ℕ → Volume
 with_pointers v i None = v
 with_pointers v i (Some b) =
-    slice_set v i (record { body = (node v i).body; blocks = (node v i).blocks; indirect = Some b })
+    slice_set v i
+    (record {
+      body = (node v i).body;
+      blocks = (node v i).blocks;
+      indirect = Some b;
+      links = (node v i).links;
+    })
 
 -- right before the thirteenth block, a block of pointers is taken
 abbrev pub pointed : Geometry → (queue : ℕ) → Volume → ℕ → Volume

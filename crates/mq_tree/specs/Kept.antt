@@ -7,10 +7,10 @@ use Rattle.std.specs.Ordering.{is_lt, nat_cmp}
 use Rattle.mq_blocks.specs.declared.geometry.Geometry.{Geometry}
 use Rattle.mq_tree.specs.Requests.{step}
 use Rattle.mq_tree.specs.Sound.{AreBytes}
-use Rattle.mq_tree.specs.Volume.{AFile, Path, Thing, Volume, tree}
+use Rattle.mq_tree.specs.Volume.{AFile, Path, Thing, Volume, inode_at, tree, way}
 use Rattle.mq_tree.specs.declared.request.Reply.TheVariants.{Dir as Count, Names}
 use Rattle.mq_tree.specs.declared.request.Request.{Request}
-use Rattle.mq_tree.specs.declared.request.Request.TheVariants.{Mkdir, Create, Write, Truncate, Unlink, Rmdir, Rename, Read, List as ListOf, Stat}
+use Rattle.mq_tree.specs.declared.request.Request.TheVariants.{Mkdir, Create, Write, Truncate, Unlink, Rmdir, Rename, Link, Read, List as ListOf, Stat}
 
 -- what a request writes are bytes
 abbrev pub HasBytes : Request → Type 0
@@ -21,6 +21,7 @@ HasBytes (Truncate p size) = ⊤
 HasBytes (Unlink p) = ⊤
 HasBytes (Rmdir p) = ⊤
 HasBytes (Rename p q) = ⊤
+HasBytes (Link p q) = ⊤
 HasBytes (Read p at count) = ⊤
 HasBytes (ListOf p) = ⊤
 HasBytes (Stat p) = ⊤
@@ -35,12 +36,16 @@ pub record IsAdded (v w : Volume) (path : Path) (new : Thing) : Type 0 where
   pub here : tree w path ≡ Some new
   pub others : AreOthers v w path
 
--- the path had a file, whose bytes change so
+-- The path had a file, whose bytes change so, at each of its paths.
 pub record IsRewritten (v w : Volume) (path : Path) (change : List ℕ → List ℕ) : Type 0 where
+  pub number : ℕ
+  pub names : inode_at v (way path) ≡ Some number
   pub old : List ℕ
   pub before : tree v path ≡ Some (AFile old)
-  pub here : tree w path ≡ Some (AFile (change old))
-  pub others : AreOthers v w path
+  pub same : (other : Path) → inode_at w (way other) ≡ inode_at v (way other)
+  pub here : (other : Path) → inode_at v (way other) ≡ Some number
+      → tree w other ≡ Some (AFile (change old))
+  pub others : (other : Path) → inode_at v (way other) ≢ Some number → tree w other ≡ tree v other
 
 -- What a `Write` makes of the bytes of a file, read as zeros past their end.
 pub record IsSpliced (at : ℕ) (bytes old new : List ℕ) : Type 0 where
@@ -60,6 +65,16 @@ pub record IsRemoved (v w : Volume) (path : Path) (old : Thing) : Type 0 where
   pub before : tree v path ≡ Some old
   pub here : tree w path ≡ None
   pub others : AreOthers v w path
+
+-- the file at the first path has the second one, too
+pub record IsLinked (v w : Volume) (from to : Path) : Type 0 where
+  pub number : ℕ
+  pub names : inode_at v (way from) ≡ Some number
+  pub bytes : List ℕ
+  pub file : tree v from ≡ Some (AFile bytes)
+  pub here : inode_at w (way to) ≡ Some number
+  pub added : IsAdded v w to (AFile bytes)
+  pub same : (other : Path) → other ≢ to → inode_at w (way other) ≡ inode_at v (way other)
 
 -- nothing stands below the path
 abbrev pub IsBare : Volume → Path → Type 0

@@ -47,11 +47,6 @@ kind_of Free = 0
 kind_of (File bytes) = 1
 kind_of (Dir slots) = 2
 
-abbrev pub links_of : Body → ℕ
-links_of Free = 0
-links_of (File bytes) = 1
-links_of (Dir slots) = 1
-
 -- in bytes, where a directory has whole blocks
 abbrev pub size_of : Body → (count : ℕ) → ℕ
 size_of Free count = 0
@@ -71,7 +66,7 @@ or_zero (Some b) = b
 abbrev pub inode_of : Node → Inode
 inode_of n = record {
   kind = kind_of n.body;
-  links = links_of n.body;
+  links = n.links;
   size = size_of n.body (length n.blocks);
   direct = padded 12 n.blocks;
   indirect = or_zero n.indirect;

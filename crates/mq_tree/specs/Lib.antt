@@ -8,6 +8,7 @@ pub mod Faults
 pub mod Free
 pub mod Kept
 pub mod Laid
+pub mod Links
 pub mod ListText
 pub mod Listings
 pub mod Looks

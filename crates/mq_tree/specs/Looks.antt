@@ -1,5 +1,5 @@
 -- The pages at which a request looks.
-use Rattle.std.specs.Prelude.{◌≡◌, ◌≢◌, ℕ, suc, ◌+◌, ◌-◌, ◌*◌, ◌/◌, ◌<◌, ◌≤◌, ◌⊎◌, min, max, Bool, true, false, List, [], ◌∷◌, ◌++◌, length, slice_get, Option, Some, None, if◌then◌else◌, nat_eq, nat_lt}
+use Rattle.std.specs.Prelude.{◌≡◌, ◌≢◌, ℕ, suc, ◌+◌, ◌-◌, ◌*◌, ◌/◌, ◌<◌, ◌≤◌, ◌⊎◌, min, max, Bool, true, false, List, [], ◌∷◌, ◌++◌, length, slice_get, Option, Some, None, if◌then◌else◌, nat_eq, nat_le, nat_lt}
 use Rattle.std.specs.List.{range_with_len}
 use Rattle.mq_blocks.specs.Geometry.{meta_of, queues_of, zone_size}
 use Rattle.mq_blocks.specs.declared.geometry.Geometry.{Geometry}
@@ -13,7 +13,7 @@ use Rattle.mq_tree.specs.declared.request.Fault.TheVariants.{NoInodes, NoSpace}
 use Rattle.mq_tree.specs.declared.request.Reply.{Reply}
 use Rattle.mq_tree.specs.declared.request.Reply.TheVariants.{Ok as Done, Data, Names, File as Size, Dir as Count, Refused}
 use Rattle.mq_tree.specs.declared.request.Request.{Request}
-use Rattle.mq_tree.specs.declared.request.Request.TheVariants.{Mkdir, Create, Write, Truncate, Unlink, Rmdir, Rename, Read, List as ListOf, Stat}
+use Rattle.mq_tree.specs.declared.request.Request.TheVariants.{Mkdir, Create, Write, Truncate, Unlink, Rmdir, Rename, Link, Read, List as ListOf, Stat}
 
 abbrev pub paths_of : Request → List Path
 paths_of (Mkdir p) = p ∷ []
@@ -23,6 +23,7 @@ paths_of (Truncate p size) = p ∷ []
 paths_of (Unlink p) = p ∷ []
 paths_of (Rmdir p) = p ∷ []
 paths_of (Rename p to) = p ∷ to ∷ []
+paths_of (Link p to) = p ∷ to ∷ []
 paths_of (Read p at count) = p ∷ []
 paths_of (ListOf p) = p ∷ []
 paths_of (Stat p) = p ∷ []
@@ -36,18 +37,20 @@ abbrev pub LeadsIn : Volume → List Path → ℕ → Type 0
 LeadsIn v [] i = ⊥
 LeadsIn v (p ∷ ps) i = Leads v (way p) i ⊎ LeadsIn v ps i
 
--- the file that is read, written, truncated or unlinked
-abbrev pub file_of : Request → Option Path
-file_of (Mkdir p) = None
-file_of (Create p) = None
-file_of (Write p at bytes) = Some p
-file_of (Truncate p size) = Some p
-file_of (Unlink p) = Some p
-file_of (Rmdir p) = None
-file_of (Rename p to) = None
-file_of (Read p at count) = Some p
-file_of (ListOf p) = None
-file_of (Stat p) = None
+-- The file whose bytes are read, written, filled, cut off or freed, where it has this many links: an
+-- unlink frees them with the last name.
+abbrev pub file_of : Request → (links : ℕ) → Option Path
+file_of (Mkdir p) links = None
+file_of (Create p) links = None
+file_of (Write p at bytes) links = Some p
+file_of (Truncate p size) links = Some p
+file_of (Unlink p) links = if nat_le links 1 then Some p else None
+file_of (Rmdir p) links = None
+file_of (Rename p to) links = None
+file_of (Link p to) links = None
+file_of (Read p at count) links = Some p
+file_of (ListOf p) links = None
+file_of (Stat p) links = None
 
 -- The bytes of a file of this size that are read, written, filled, cut off or freed: from the first on,
 -- and before the second.
@@ -60,6 +63,7 @@ touched (Truncate p to) size = (min to size, max to size)
 touched (Unlink p) size = (0, size)
 touched (Rmdir p) size = (0, 0)
 touched (Rename p to) size = (0, 0)
+touched (Link p to) size = (0, 0)
 touched (Read p at count) size = (at, min (at + count) size)
 touched (ListOf p) size = (0, 0)
 touched (Stat p) size = (0, 0)
@@ -81,6 +85,7 @@ is_making (Truncate p size) = false
 is_making (Unlink p) = false
 is_making (Rmdir p) = false
 is_making (Rename p to) = false
+is_making (Link p to) = false
 is_making (Read p at count) = false
 is_making (ListOf p) = false
 is_making (Stat p) = false
@@ -98,10 +103,10 @@ abbrev pub needed : Verdict → ℕ
 needed (Says reply) = 0
 needed (Makes blocks next) = blocks
 
--- a file that the request works on
+-- a file on whose bytes the request works
 pub record WorksOn (v : Volume) (r : Request) (i : ℕ) (bytes : List ℕ) : Type 0 where
   pub path : Path
-  pub names : file_of r ≡ Some path
+  pub names : file_of r (node v i).links ≡ Some path
   pub leads : inode_at v (way path) ≡ Some i
   pub is : body v i ≡ File bytes
 

@@ -12,11 +12,11 @@ use Rattle.mq_tree.specs.Free.{first_free, free_blocks, grown, needs}
 use Rattle.mq_tree.specs.Sound.{blocks_for}
 use Rattle.mq_tree.specs.Volume.{Body, Free, File, Dir, Node, Path, Volume, Way, body, find, free_node, node, slots_of, way}
 use Rattle.mq_tree.specs.declared.request.Fault.{Fault}
-use Rattle.mq_tree.specs.declared.request.Fault.TheVariants.{NotFound, Exists, NotDir, IsDir, NotEmpty, BadName, TooBig, Subtree, NoSpace, NoInodes}
+use Rattle.mq_tree.specs.declared.request.Fault.TheVariants.{NotFound, Exists, NotDir, IsDir, NotEmpty, BadName, TooBig, Subtree, NoSpace, NoInodes, Links}
 use Rattle.mq_tree.specs.declared.request.Reply.{Reply}
 use Rattle.mq_tree.specs.declared.request.Reply.TheVariants.{Ok as Done, Data, Names, File as Size, Dir as Count, Refused}
 use Rattle.mq_tree.specs.declared.request.Request.{Request}
-use Rattle.mq_tree.specs.declared.request.Request.TheVariants.{Mkdir, Create, Write, Truncate, Unlink, Rmdir, Rename, Read, List as ListOf, Stat}
+use Rattle.mq_tree.specs.declared.request.Request.TheVariants.{Mkdir, Create, Write, Truncate, Unlink, Rmdir, Rename, Link, Read, List as ListOf, Stat}
 
 -- a request that may change the tree
 abbrev pub is_change : Request → Bool
@@ -27,6 +27,7 @@ is_change (Truncate p size) = true
 is_change (Unlink p) = true
 is_change (Rmdir p) = true
 is_change (Rename p q) = true
+is_change (Link p q) = true
 is_change (Read p at count) = false
 is_change (ListOf p) = false
 is_change (Stat p) = false
@@ -40,6 +41,7 @@ is_named (Truncate p size) = list_all is_name p
 is_named (Unlink p) = list_all is_name p
 is_named (Rmdir p) = list_all is_name p
 is_named (Rename p q) = list_all is_name p && list_all is_name q
+is_named (Link p q) = list_all is_name p && list_all is_name q
 is_named (Read p at count) = list_all is_name p
 is_named (ListOf p) = list_all is_name p
 is_named (Stat p) = list_all is_name p
@@ -85,10 +87,30 @@ target v (name ∷ way) = target_in v name (walk v way)
 
 abbrev pub with_body : Volume → ℕ → Body → Volume
 with_body v i b =
-    slice_set v i (record { body = b; blocks = (node v i).blocks; indirect = (node v i).indirect })
+    slice_set v i
+    (record {
+      body = b;
+      blocks = (node v i).blocks;
+      indirect = (node v i).indirect;
+      links = (node v i).links;
+    })
 
 abbrev pub freed : Volume → ℕ → Volume
 freed v i = slice_set v i free_node
+
+abbrev pub with_links : Volume → ℕ → (links : ℕ) → Volume
+with_links v i links =
+    slice_set v i
+    (record {
+      body = body v i;
+      blocks = (node v i).blocks;
+      indirect = (node v i).indirect;
+      links = links;
+    })
+
+-- a file with a link less, or free without the last one
+abbrev pub released : Volume → ℕ → Volume
+released v i = if nat_le (node v i).links 1 then freed v i else with_links v i ((node v i).links - 1)
 
 -- how many names there are
 abbrev pub count_names : List (Option Entry) → ℕ
@@ -149,6 +171,7 @@ resized g q v i bytes =
       body = File bytes;
       blocks = take count grown_node.blocks;
       indirect = if nat_lt 12 count then grown_node.indirect else None;
+      links = grown_node.links;
     })
 
 -- ---- what a request comes to
@@ -168,7 +191,7 @@ abbrev pub make_free : Geometry → (queue : ℕ) → Volume → Body → (d : �
 make_free g q v new d name None = refused NoInodes
 make_free g q v new d name (Some i) =
     Makes (link_needs (node v d))
-    (linked g q (slice_set v i (record { body = new; blocks = []; indirect = None })) d
+    (linked g q (slice_set v i (record { body = new; blocks = []; indirect = None; links = 1 })) d
     (record { inode = i; name = name }))
 
 abbrev pub make : Geometry → (queue : ℕ) → Volume → Body → RequestTarget → Verdict
@@ -209,7 +232,7 @@ truncate g q v size (In d name (Some i)) = truncate_in g q v i size (body v i)
 
 abbrev pub unlink_in : Volume → (d : ℕ) → (name : List ℕ) → ℕ → Body → Verdict
 unlink_in v d name i Free = refused NotFound
-unlink_in v d name i (File bytes) = Makes 0 (freed (unlinked v d name) i)
+unlink_in v d name i (File bytes) = Makes 0 (released (unlinked v d name) i)
 unlink_in v d name i (Dir slots) = refused IsDir
 
 abbrev pub unlink : Volume → RequestTarget → Verdict
@@ -255,6 +278,35 @@ rename g q v from to (Lost fault) = refused fault
 rename g q v from to (In d name None) = refused NotFound
 rename g q v from to (In d name (Some i)) =
     if is_below from to then refused Subtree else move g q (unlinked v d name) i (target v (way to))
+
+-- the most names of a file
+abbrev pub links_limit : ℕ
+links_limit = 65535
+
+-- a name more for a file, in a directory that does not have it
+abbrev pub link_in : Geometry → (queue : ℕ) → Volume → ℕ → (d : ℕ) → (name : List ℕ) → Verdict
+link_in g q v i d name =
+    if nat_le names_limit (count_names (slots_of (body v d))) then refused TooBig
+    else (if nat_le links_limit (node v i).links then refused Links
+    else Makes (link_needs (node v d))
+    (linked g q (with_links v i (suc (node v i).links)) d (record { inode = i; name = name })))
+
+abbrev pub link_to : Geometry → (queue : ℕ) → Volume → ℕ → RequestTarget → Verdict
+link_to g q v i Root = refused Exists
+link_to g q v i (Lost fault) = refused fault
+link_to g q v i (In d name (Some j)) = refused Exists
+link_to g q v i (In d name None) = link_in g q v i d name
+
+abbrev pub link_file : Geometry → (queue : ℕ) → Volume → ℕ → (to : RequestTarget) → Body → Verdict
+link_file g q v i to Free = refused NotFound
+link_file g q v i to (File bytes) = link_to g q v i to
+link_file g q v i to (Dir slots) = refused IsDir
+
+abbrev pub link : Geometry → (queue : ℕ) → Volume → (to : RequestTarget) → RequestTarget → Verdict
+link g q v to Root = refused IsDir
+link g q v to (Lost fault) = refused fault
+link g q v to (In d name None) = refused NotFound
+link g q v to (In d name (Some i)) = link_file g q v i to (body v i)
 
 -- ---- reading
 
@@ -302,6 +354,7 @@ act g q v (Truncate p size) = truncate g q v size (target v (way p))
 act g q v (Unlink p) = unlink v (target v (way p))
 act g q v (Rmdir p) = rmdir v (target v (way p))
 act g q v (Rename p to) = rename g q v p to (target v (way p))
+act g q v (Link p to) = link g q v (target v (way to)) (target v (way p))
 act g q v (Read p at count) = asks v (read_in at count) (target v (way p))
 act g q v (ListOf p) = asks v list_in (target v (way p))
 act g q v (Stat p) = asks v stat_in (target v (way p))

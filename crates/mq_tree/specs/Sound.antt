@@ -4,7 +4,8 @@ use Rattle.mq_blocks.specs.Geometry.{meta_of, homes_of}
 use Rattle.mq_blocks.specs.declared.geometry.Geometry.{Geometry}
 use Rattle.mq_layout.specs.Places.{file_limit, inodes_of}
 use Rattle.mq_layout.specs.Slots.{Entry, IsEntry}
-use Rattle.mq_tree.specs.Volume.{Body, Free, File, Dir, Node, Volume, node, body, is_used, slot, inode_at, Way, Use, block_in}
+use Rattle.mq_tree.specs.Links.{AreCounted, HasLinks}
+use Rattle.mq_tree.specs.Volume.{ADir, Body, Free, File, Dir, Node, Volume, node, body, is_used, slot, inode_at, thing, Way, Use, block_in}
 
 -- how many blocks this number of bytes takes
 abbrev pub blocks_for : ℕ → ℕ
@@ -29,6 +30,7 @@ IsBody (Dir slots) count = (count ≤ 1036) × (length slots ≡ 15 * count) × 
 pub record IsNode (n : Node) : Type 0 where
   pub body : IsBody n.body (length n.blocks)
   pub indirect : is_some n.indirect ≡ nat_lt 12 (length n.blocks)
+  pub links : HasLinks n.body n.links
 
 pub record IsSound (g : Geometry) (v : Volume) : Type 0 where
   pub count : length v ≡ inodes_of g
@@ -38,13 +40,14 @@ pub record IsSound (g : Geometry) (v : Volume) : Type 0 where
   -- blocks are those of the zones, and none is used twice
   pub zones : (u : Use) (b : ℕ) → block_in v u ≡ Some b → (meta_of g ≤ b) × (b < homes_of g)
   pub apart : (u w : Use) (b : ℕ) → block_in v u ≡ Some b → block_in v w ≡ Some b → u ≡ w
-  -- a slot names a used inode, which is not the root, and no other slot names it
+  -- a slot names a used inode, which is not the root, and no other slot names a directory
   pub named : (d k : ℕ) (e : Entry) → slot v d k ≡ Some e
       → (e.inode ≢ 0) × (is_used (body v e.inode) ≡ true)
   pub once : (d k c l : ℕ) (e f : Entry) → slot v d k ≡ Some e → slot v c l ≡ Some f → e.inode ≡ f.inode
-      → (d ≡ c) × (k ≡ l)
+      → thing (body v e.inode) ≡ Some ADir → (d ≡ c) × (k ≡ l)
   -- no name stands twice in a directory
   pub names : (d k l : ℕ) (e f : Entry) → slot v d k ≡ Some e → slot v d l ≡ Some f → e.name ≡ f.name
       → k ≡ l
   -- a path leads to each used inode
   pub reached : (i : ℕ) → is_used (body v i) ≡ true → (way : Way) × (inode_at v way ≡ Some i)
+  pub counted : AreCounted v

@@ -19,7 +19,7 @@ body_kept (Names names) = Dir names
 -- the volume of what is kept, whose directories have a slot for each name, in rising order
 abbrev pub kept : List InodeContent → Volume
 kept [] = []
-kept (c ∷ cs) = record { body = body_kept c; blocks = []; indirect = None } ∷ kept cs
+kept (c ∷ cs) = record { body = body_kept c; blocks = []; indirect = None; links = 0 } ∷ kept cs
 
 -- the same kind, the same bytes, and the same names with the same inodes
 abbrev pub IsSameBody : Body → Body → Type 0

@@ -16,13 +16,15 @@ pub record Node : Type 0 where
   pub blocks : List ℕ
   -- the block with the pointers to those beyond the twelfth
   pub indirect : Option ℕ
+  -- how many slots are said to name it
+  pub links : ℕ
 
 -- the inodes, by number
 abbrev pub Volume : Type 0
 Volume = List Node
 
 abbrev pub free_node : Node
-free_node = record { body = Free; blocks = []; indirect = None }
+free_node = record { body = Free; blocks = []; indirect = None; links = 0 }
 
 -- A file with these bytes and the first `count` of its blocks. Its block of pointers stays only where
 -- `count` is over 12.
@@ -32,6 +34,7 @@ cut_node n count bytes =
       body = File bytes;
       blocks = take count n.blocks;
       indirect = if nat_lt 12 count then n.indirect else None;
+      links = n.links;
     }
 
 abbrev pub node : Volume → ℕ → Node

@@ -2,7 +2,7 @@
 use Rattle.std.specs.Prelude.{◌≡◌, ◌≢◌, ℕ, ◌<◌, ◌⊎◌, Bool, true, false, List, [], ◌∷◌, ◌++◌, length, replicate, slice_index, slice_index_or, slice_set, Some, if◌then◌else◌}
 use Rattle.std.specs.List.{sum_by}
 use Rattle.mq_layout.specs.Slots.{Entry}
-use Rattle.mq_tree.specs.Volume.{Volume, Way, inode_at, slot}
+use Rattle.mq_tree.specs.Volume.{ADir, Volume, Way, body, inode_at, slot, thing}
 
 abbrev pub is_seen : List Bool → ℕ → Bool
 is_seen seen i = slice_index_or seen i false
@@ -30,7 +30,7 @@ pub record IsOrder (count : ℕ) (seen : List Bool) (order : List ℕ) : Type 0 
       → slice_index order j ≡ slice_index order l → j ≡ l
 
 -- Paths lead to what was seen. What the slots that were looked at name was seen, and each such inode but
--- the root stands in one of them alone.
+-- the root stands in one of them, a directory in one alone.
 pub record IsWalk (v : Volume) (seen : List Bool) (looked : ℕ → ℕ → Type 0) : Type 0 where
   pub reached : (i : ℕ) → is_seen seen i ≡ true → (way : Way) × (inode_at v way ≡ Some i)
   pub root : is_seen seen 0 ≡ true
@@ -38,7 +38,8 @@ pub record IsWalk (v : Volume) (seen : List Bool) (looked : ℕ → ℕ → Type
   pub named : (i : ℕ) → is_seen seen i ≡ true → i ≢ 0
       → (d : ℕ) × (k : ℕ) × (e : Entry) × looked d k × (slot v d k ≡ Some e) × (e.inode ≡ i)
   pub once : (d k c l : ℕ) (e f : Entry) → looked d k → looked c l → slot v d k ≡ Some e
-      → slot v c l ≡ Some f → e.inode ≡ f.inode → (d ≡ c) × (k ≡ l)
+      → slot v c l ≡ Some f → e.inode ≡ f.inode → thing (body v e.inode) ≡ Some ADir
+      → (d ≡ c) × (k ≡ l)
 
 -- so far as all slots of the first inodes of the order, and the first slots of the next
 pub record Walked (v : Volume) (count : ℕ) (seen : List Bool) (order : List ℕ)
@@ -47,21 +48,24 @@ pub record Walked (v : Volume) (count : ℕ) (seen : List Bool) (order : List �
   pub walk : IsWalk v seen (IsLooked order done part)
 
 -- A walk to its end: what was seen is what paths lead to, and no two slots of such directories name one
--- inode.
+-- directory.
 pub record IsWholeWalk (v : Volume) (seen : List Bool) : Type 0 where
   pub reached : (i : ℕ) → is_seen seen i ≡ true → (way : Way) × (inode_at v way ≡ Some i)
   pub all : (way : Way) (i : ℕ) → inode_at v way ≡ Some i → is_seen seen i ≡ true
   pub once : (d k c l : ℕ) (e f : Entry) → is_seen seen d ≡ true → is_seen seen c ≡ true
-      → slot v d k ≡ Some e → slot v c l ≡ Some f → e.inode ≡ f.inode → (d ≡ c) × (k ≡ l)
+      → slot v d k ≡ Some e → slot v c l ≡ Some f → e.inode ≡ f.inode
+      → thing (body v e.inode) ≡ Some ADir → (d ≡ c) × (k ≡ l)
 
 -- a walk that found the root alone
 pub record Starts (count : ℕ) (seen : List Bool) (order : List ℕ) : Type 0 where
   pub first : order ≡ 0 ∷ []
   pub marks : seen ≡ slice_set (replicate count false) 0 true
 
--- an inode is found, or was before
-abbrev pub Finds : (is_new : Bool) → (inode : ℕ)
+-- an inode is found, or was before, and is no directory
+abbrev pub Finds : (is_fine : Bool) → (inode kind : ℕ)
     → (seen : List Bool) (order : List ℕ) (after : List Bool) (next : List ℕ) → Type 0
-Finds true i seen order after next =
-    (is_seen seen i ≡ false) × (after ≡ slice_set seen i true) × (next ≡ order ++ i ∷ [])
-Finds false i seen order after next = (is_seen seen i ≡ true) × (after ≡ seen) × (next ≡ order)
+Finds true i kind seen order after next =
+    ((is_seen seen i ≡ false) × (after ≡ slice_set seen i true) × (next ≡ order ++ i ∷ []))
+    ⊎ ((is_seen seen i ≡ true) × (kind ≢ 2) × (after ≡ seen) × (next ≡ order))
+Finds false i kind seen order after next =
+    (is_seen seen i ≡ true) × (kind ≡ 2) × (after ≡ seen) × (next ≡ order)

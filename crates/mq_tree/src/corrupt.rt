@@ -11,8 +11,10 @@ pub enum CorruptCause {
     Pointer,
     /// The bit of a block or an inode that is used is clear.
     Unmarked,
-    /// A block or an inode is reached twice.
+    /// A block or a directory is reached twice.
     Shared,
+    /// A file's links are not as many as the slots that name it.
+    Count,
     /// A name stands twice in a directory.
     Twin,
     /// A bit is set or an inode is used, but no path leads there.

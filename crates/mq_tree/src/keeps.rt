@@ -5,7 +5,7 @@ ghost use Rattle.mq_blocks.specs.Geometry.{queues_of};
 ghost use Rattle.mq_blocks.specs.declared.geometry.Geometry.{Geometry};
 ghost use Rattle.mq_layout.specs.Names.{is_name};
 ghost use Rattle.mq_tree.specs.Faults.{IsFault, IsFull};
-ghost use Rattle.mq_tree.specs.Kept.{HasBytes, IsAdded, IsBare, IsCut, IsListed, IsRemoved, IsRenamed, IsRewritten, IsSpliced};
+ghost use Rattle.mq_tree.specs.Kept.{HasBytes, IsAdded, IsBare, IsCut, IsLinked, IsListed, IsRemoved, IsRenamed, IsRewritten, IsSpliced};
 ghost use Rattle.mq_tree.specs.Requests.{after_group, cut_to, is_change, is_named, spliced, step};
 ghost use Rattle.mq_tree.specs.Sound.{AreBytes, IsSound};
 ghost use Rattle.mq_tree.specs.Volume.{ADir, AFile, Path, Volume, tree};
@@ -13,7 +13,7 @@ ghost use Rattle.mq_tree.specs.declared.request.Fault.{Fault};
 ghost use Rattle.mq_tree.specs.declared.request.Fault.TheVariants.{BadName};
 ghost use Rattle.mq_tree.specs.declared.request.Reply.TheVariants.{Ok as Done, Data, File as Size, Refused};
 ghost use Rattle.mq_tree.specs.declared.request.Request.{Request};
-ghost use Rattle.mq_tree.specs.declared.request.Request.TheVariants.{Mkdir, Create, Write, Truncate, Unlink, Rmdir, Rename, Read, Stat};
+ghost use Rattle.mq_tree.specs.declared.request.Request.TheVariants.{Mkdir, Create, Write, Truncate, Unlink, Rmdir, Rename, Link, Read, Stat};
 
 /// A sound volume stays sound under every request of every queue, and so under every group.
 pub fn a_group_keeps_a_volume_sound()
@@ -83,6 +83,15 @@ pub fn things_are_renamed()
         → queue < queues_of g
         → (step g queue v (Rename from to)).reply ≡ Done
         → IsRenamed v (step g queue v (Rename from to)).next from to }
+{}
+
+/// The file at the first path of a `Link` has the second path, too, and nothing else changes in the tree.
+pub fn files_are_linked()
+    ensures link { (g : Geometry) (queue : ℕ) (v : Volume) (from to : Path)
+        → IsSound g v
+        → queue < queues_of g
+        → (step g queue v (Link from to)).reply ≡ Done
+        → IsLinked v (step g queue v (Link from to)).next from to }
 {}
 
 /// A request that is refused and one that only reads leave the volume as it is. One that may change

@@ -13,6 +13,7 @@ mod duplicate_names;
 mod file_tails;
 mod keeps;
 mod laws;
+mod links;
 mod listing;
 mod mounts;
 mod names;
@@ -28,7 +29,7 @@ mod walk;
 pub use corrupt::{CorruptCause, MountRefusal};
 pub use counts::TreeCounts;
 pub use keeps::{
-    a_group_keeps_a_volume_sound, files_are_rewritten, new_things_are_added,
+    a_group_keeps_a_volume_sound, files_are_linked, files_are_rewritten, new_things_are_added,
     refusals_are_those_of_the_tree, refusals_change_nothing, replies_are_those_of_the_tree,
     things_are_removed, things_are_renamed,
 };

@@ -18,6 +18,7 @@ use crate::contents::{InodeContent, read_contents};
 use crate::corrupt::MountRefusal;
 use crate::dirs::check_dirs;
 use crate::file_tails::check_ends;
+use crate::links::{check_links, count_links};
 use crate::names::check_names;
 use crate::pointers::check_pointers;
 use crate::table::read_table;
@@ -68,6 +69,8 @@ fn read_volume(
     check_names(geometry, blocks, zero, &inodes)?;
     let contents = read_contents(alloc, geometry, blocks, zero, &inodes)?;
     let seen = walk_all(alloc, geometry, blocks, zero, &inodes)?;
+    let counts = count_links(alloc, geometry, blocks, zero, &inodes)?;
+    check_links(geometry, blocks, &inodes, &counts)?;
     check_marks(geometry, blocks, zero, &inodes, &used)?;
     check_reached(geometry, blocks, &inodes, &seen)?;
     check_ends(geometry, blocks, zero, &inodes)?;

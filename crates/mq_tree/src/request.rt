@@ -16,12 +16,14 @@ pub enum Request {
     Write(Path, u64, Bytes),
     /// Cuts a file to this size, or extends it with zeros up to it.
     Truncate(Path, u64),
-    /// Removes a file.
+    /// Removes a name of a file, and the file with its last name.
     Unlink(Path),
     /// Removes an empty directory.
     Rmdir(Path),
     /// Moves what is at the first path to the second, with everything below it.
     Rename(Path, Path),
+    /// Gives the file at the first path the second path, too.
+    Link(Path, Path),
     /// Reads the bytes of a file from an offset on, at most this many.
     Read(Path, u64, u64),
     /// The names in a directory.
@@ -60,6 +62,8 @@ pub enum Fault {
     Subtree,
     NoSpace,
     NoInodes,
+    /// A file has 65,535 names.
+    Links,
 }
 
 /// Whether the request may change the tree: it is none of `Read`, `List` and `Stat`.

@@ -1,4 +1,4 @@
-// A phase of a mount: a path leads to each used inode, and one slot alone names it.
+// A phase of a mount: a path leads to each used inode, and one slot alone names a directory.
 ghost use Rattle.std.specs.Prelude.{◌≡◌, ◌+◌, ◌<◌, IfErr, IfOk, OnOk, length};
 ghost use Rattle.mq_blocks.specs.Blocks.{zeros};
 ghost use Rattle.mq_layout.specs.Places.{inodes_of};
@@ -36,13 +36,17 @@ impl Walk {
         Ok(Walk { seen, order })
     }
 
-    /// Adds an inode, and returns whether it was not seen before.
-    fn find(&mut self, inode: u32) -> Result<bool, OutOfMemory>
+    /// Adds an inode if it was not seen before, and returns whether another slot may name it.
+    fn find(&mut self, inode: u32, kind: u8) -> Result<bool, OutOfMemory>
         requires { inode < length self.old.seen.items }
-        ensures { IfOk result (λ is_new. Finds is_new inode self.old.seen.items self.old.order.items self.new.seen.items self.new.order.items) }
+        ensures { IfOk result (λ is_fine. Finds is_fine inode kind
+            self.old.seen.items self.old.order.items self.new.seen.items self.new.order.items) }
     {
         if self.seen[inode as usize] {
-            return Ok(false);
+            if kind == DIRECTORY {
+                return Ok(false);
+            }
+            return Ok(true);
         }
         self.order.push(inode)?;
         self.seen[inode as usize] = true;
@@ -81,7 +85,7 @@ fn visit(
     }
     for k in 0..SLOTS_PER_BLOCK * block_count(inode) {
         if let Some(link) = slot_at(blocks, zero, inode, k) {
-            if !walk.find(link.inode)? {
+            if !walk.find(link.inode, inodes[link.inode as usize].kind)? {
                 let b = inode_block(geometry, link.inode).0;
                 return Err(corrupt(CorruptCause::Shared, b));
             }
@@ -90,7 +94,7 @@ fn visit(
     Ok(())
 }
 
-/// The inodes to which paths lead. Refuses an inode that is named by two slots.
+/// The inodes to which paths lead. Refuses a directory that is named by two slots.
 pub fn walk_all(
     alloc: Global,
     geometry: Geometry,

@@ -13,8 +13,8 @@ give_back-requires-clause-stands g c =
     let r = c.raise.ensures.raised in
     raised_root g.P.Port.state g.P.Port.faults g.G.Groups.group (start_of c.args.desk.now) (view c.args.chair.now) (view c.take.new.chair) c.requires.at.1 c.requires.idle t.0 t.1 t.2 c.in-Root.root c.store.new.root t.3 c.args.base c.in-Ok.ensures.stands c.requires.base c.in-Ok.ensures.cause c.base-raised.result c.base-raised.ensures r.0 (view c.raise.new.chair) r.1 r.2
 
-pub report_root-requires-clause-shows : goal.report_root-requires-clause-shows
-report_root-requires-clause-shows g c =
+pub report_port-requires-clause-shows : goal.report_port-requires-clause-shows
+report_port-requires-clause-shows g c =
     let t = c.in-Root.ensures.took in
     off_root g.P.Port.state g.P.Port.faults g.G.Groups.group (start_of c.args.desk.now) (view c.args.chair.now) (view c.take.new.chair) c.requires.at.1 c.requires.idle t.0 t.1 t.2 c.in-Root.root c.store.new.root t.3 c.args.base c.in-Err.ensures.stands c.requires.base c.in-Err.ensures.cause
 
@@ -27,4 +27,4 @@ returns-in-Ok-clause-raised g c =
 pub returns-in-Err-clause-refused : goal.returns-in-Err-clause-refused
 returns-in-Err-clause-refused g c =
     let t = c.in-Root.ensures.took in
-    off_refused g.P.Port.state g.P.Port.faults g.G.Groups.group (start_of c.args.desk.now) (view c.args.chair.now) (view c.take.new.chair) c.requires.at.1 c.requires.idle t.0 t.1 t.2 c.in-Root.root c.store.new.root t.3 c.args.base c.in-Err.ensures.stands c.requires.base c.in-Err.ensures.cause (view c.report_root.new.chair) c.report_root.ensures.reported
+    off_refused g.P.Port.state g.P.Port.faults g.G.Groups.group (start_of c.args.desk.now) (view c.args.chair.now) (view c.take.new.chair) c.requires.at.1 c.requires.idle t.0 t.1 t.2 c.in-Root.root c.store.new.root t.3 c.args.base c.in-Err.ensures.stands c.requires.base c.in-Err.ensures.cause (view c.report_port.new.chair) c.report_port.ensures.reported

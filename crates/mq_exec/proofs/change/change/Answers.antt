@@ -2,7 +2,7 @@ use Rattle.std.proofs.Common.{ap, subst, sym, ◌∙◌}
 use Rattle.mq_exec.proofs.ReadsStepping.{lack-of, lack-on}
 use Rattle.mq_tree.specs.Kept.{HasBytes}
 use Rattle.mq_tree.specs.declared.request.Request.{Request}
-use Rattle.mq_tree.specs.declared.request.Request.TheVariants.{Mkdir, Create, Write, Truncate, Unlink, Rmdir, Rename}
+use Rattle.mq_tree.specs.declared.request.Request.TheVariants.{Mkdir, Create, Write, Truncate, Unlink, Rmdir, Rename, Link}
 use Rattle.mq_exec.proofs.change.change.Goals as goal
 
 pub returns-in-Mkdir-clause-lack : goal.returns-in-Mkdir-clause-lack
@@ -28,6 +28,9 @@ returns-in-Rmdir-clause-lack c = lack-on c.args.working.now c.args.queue c.args.
 pub returns-in-Rename-clause-lack : goal.returns-in-Rename-clause-lack
 returns-in-Rename-clause-lack c = lack-of c.args.working.now c.args.queue c.args.request.now (Rename c.in-Rename.from c.in-Rename.to) c.rename.result c.in-Rename.is c.rename.ensures.lack
 
+pub returns-in-Link-clause-lack : goal.returns-in-Link-clause-lack
+returns-in-Link-clause-lack c = lack-of c.args.working.now c.args.queue c.args.request.now (Link c.in-Link.from c.in-Link.to) c.link.result c.in-Link.is c.link.ensures.lack
+
 pub returns-in-Mkdir-clause-bytes : goal.returns-in-Mkdir-clause-bytes
 returns-in-Mkdir-clause-bytes c = subst (λ (r : Request). HasBytes r) (sym c.in-Mkdir.is) tt
 
@@ -45,6 +48,9 @@ returns-in-Rmdir-clause-bytes c = subst (λ (r : Request). HasBytes r) (sym c.in
 
 pub returns-in-Rename-clause-bytes : goal.returns-in-Rename-clause-bytes
 returns-in-Rename-clause-bytes c = subst (λ (r : Request). HasBytes r) (sym c.in-Rename.is) tt
+
+pub returns-in-Link-clause-bytes : goal.returns-in-Link-clause-bytes
+returns-in-Link-clause-bytes c = subst (λ (r : Request). HasBytes r) (sym c.in-Link.is) tt
 
 pub returns-in-Write-clause-bytes : goal.returns-in-Write-clause-bytes
 returns-in-Write-clause-bytes c = subst (λ (r : Request). HasBytes r) (sym (c.in-Write.is ∙ ap (λ bytes. Write c.in-Write.path c.in-Write.at bytes) (sym (c.deref.ensures.value ∙ c.bytes.view_is)))) c.write.ensures.bytes
