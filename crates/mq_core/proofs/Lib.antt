@@ -15,10 +15,12 @@ pub mod ItemsGoodness
 pub mod ItemsReading
 pub mod StateCuts
 pub mod StateSafe
+pub mod Reach
 pub mod MachineFacts
 mod MachineLifts
 mod Within
 mod Settled
+mod Stored
 pub mod HomesWritten
 pub mod DriveHomeWrites
 mod EventsTellings

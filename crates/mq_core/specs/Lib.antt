@@ -8,3 +8,4 @@ pub mod Homes
 pub mod Bases
 pub mod View
 pub mod Whole
+pub mod Reach

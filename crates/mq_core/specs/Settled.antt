@@ -1,5 +1,5 @@
 -- A history whose front is the greatest number up to which all is done.
-use Rattle.std.specs.Prelude.{◌≡◌, ◌≤◌, ℕ, ◌+◌, true, List, length}
+use Rattle.std.specs.Prelude.{◌≡◌, ◌<◌, ◌≤◌, ℕ, ◌+◌, true, List, length}
 use Rattle.mq_blocks.specs.Drive.{PortState}
 use Rattle.mq_ledger.specs.History.{AreNumbered, IsAt, part_of}
 use Rattle.mq_ledger.specs.Records.{Ledger}
@@ -36,3 +36,7 @@ pub record IsSettled (l : Ledger) (ports : List PortState) : Type 0 where
 -- and no greater one
 abbrev pub settled : List PortState → Ledger → Ledger
 settled ports l = with_front (l.base + length (part_of (is_done l.starts ports) l.history)) l
+
+-- each transaction's queue is one of the geometry's
+abbrev pub AreOnQueues : Ledger → Type 0
+AreOnQueues l = (t : Tx) (ts : List Tx) → IsAt t ts l.history → t.queue < l.geometry.queues

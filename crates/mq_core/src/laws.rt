@@ -8,9 +8,10 @@ ghost use Rattle.mq_blocks.specs.declared.geometry.Geometry.{Geometry};
 ghost use Rattle.mq_ledger.specs.History.{part_of};
 ghost use Rattle.mq_ledger.specs.Items.{Entries, reading_of};
 ghost use Rattle.mq_ledger.specs.Plain.{plain};
-ghost use Rattle.mq_ledger.specs.State.{State, AreImages, IsLawful, IsStart};
+ghost use Rattle.mq_ledger.specs.State.{State, AreImages, IsLawful, IsStart, front_of};
 ghost use Rattle.mq_core.specs.Start.{start_state};
 ghost use Rattle.mq_core.specs.Machine.{Event, AreAllowed, IsAlwaysLawful};
+ghost use Rattle.mq_core.specs.Reach.{ReachBetween, IsReached, stored_front};
 ghost use Rattle.mq_core.specs.Whole.{is_whole};
 
 /// Every run of allowed events from a start state is lawful before, after and between its events:
@@ -32,6 +33,16 @@ pub fn prefixes_are_whole()
         → Reaches s.geometry (shown (reading_of e) s.geometry queues root) ds
         → root.base + length ds
         ≡ s.base + length (part_of (is_whole s (shown (reading_of e) s.geometry queues root)) s.history) }
+{}
+
+/// Each image of a lawful state reaches a number from the front up to the greatest number such that the
+/// stored heads are past all up to it, and some image reaches each of these two.
+pub fn reach_is_exact()
+    ensures between { (e : Entries) (s : State)
+        → IsLawful e s
+        → ReachBetween e s (front_of s) (stored_front s) }
+    ensures least { (e : Entries) (s : State) → IsLawful e s → IsReached e s (front_of s) }
+    ensures greatest { (e : Entries) (s : State) → IsLawful e s → IsReached e s (stored_front s) }
 {}
 
 /// Home blocks and a base make a start state.

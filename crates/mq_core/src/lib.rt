@@ -8,7 +8,7 @@ mod machine;
 mod port;
 
 pub use event::{CoreRefusal, Event};
-pub use laws::{every_run_is_lawful, prefixes_are_whole, starts};
+pub use laws::{every_run_is_lawful, prefixes_are_whole, reach_is_exact, starts};
 pub use machine::{Core, fresh_queues};
 pub use mq_ledger::{Blocks, Content, PlainEntry, Tx, Writes, copy_blocks, copy_content};
 pub use port::{PlainCommand, PlainHomeWrite, PlainPort};

@@ -3,6 +3,7 @@ mod bases;
 mod front;
 mod homes;
 mod numbers;
+mod reach;
 mod rings;
 mod runs;
 

@@ -506,6 +506,13 @@ impl PlainPort {
         self.head
     }
 
+    /// The head as it was last stored.
+    pub fn stored_head(&self) -> u64
+        ensures { result ≡ self.now.stored_head }
+    {
+        self.stored_head
+    }
+
     /// The commands that are posted.
     pub fn posted(&self) -> &[PlainCommand]
         ensures { result.now ≡ self.now.posted }
