@@ -16,17 +16,10 @@ use Rattle.mq_layout.specs.Superblock.{wrong_super}
 use Rattle.mq_layout.specs.declared.inode.Inode.{Inode}
 use Rattle.mq_layout.specs.declared.refusal.LayoutRefusal.{LayoutRefusal}
 use Rattle.mq_tree.specs.Clean.{IsTable, NoneFrom}
-use Rattle.mq_tree.specs.Corrupt.{IsCorrupt, Refuses, inode_bit, superblock, table_inode, table_rest, zone_bit}
+use Rattle.mq_tree.specs.Corrupt.{BadTable, inode_bit, superblock, table_inode, table_rest, zone_bit}
 use Rattle.mq_tree.specs.Decoded.{Stored, table_of, the_inode, inodes_in}
 use Rattle.mq_tree.specs.Laid.{IsPage}
-use Rattle.mq_tree.specs.declared.corrupt.CorruptCause.{CorruptCause}
-use Rattle.mq_tree.specs.declared.corrupt.CorruptCause.TheVariants.{Layout}
-use Rattle.mq_tree.specs.declared.corrupt.MountRefusal.{MountRefusal}
-use Rattle.mq_tree.specs.declared.corrupt.MountRefusal.TheVariants.{Corrupt}
 use Rattle.mq_tree.proofs.Decoded.{inode-decoded, table-at, length-table}
-
-pub refuses-at : (g : Geometry) (s : Stored) (cause : CorruptCause) (b : ℕ) (r : MountRefusal) → r ≡ Corrupt cause b → IsCorrupt g s cause b → Refuses g s r
-refuses-at g s cause b r e h = subst (λ x. Refuses g s x) (sym e) h
 
 -- ---- pages
 
@@ -46,18 +39,18 @@ past-page s k l = subst (λ o. IsPage (content o)) (sym (get_or_past s k None l)
 
 -- ---- the table
 
-pub super-bad : (g : Geometry) (s : Stored) (block : List ℕ) (e : LayoutRefusal) → block ≡ block_at s 0 → wrong_super g block ≡ Some e → IsCorrupt g s Layout 0
+pub super-bad : (g : Geometry) (s : Stored) (block : List ℕ) (e : LayoutRefusal) → block ≡ block_at s 0 → wrong_super g block ≡ Some e → BadTable g s 0
 super-bad g s block e is wrong = superblock e refl (ap (λ (p : List ℕ). wrong_super g p) (sym is) ∙ wrong)
 
 -- what a search for a set bit found
 abbrev pub Found : Option ℕ → List ℕ → ℕ → Type 0
 Found o block from = MatchOption o (NoneFrom block from) (λ k. (from ≤ k) × (k < 32768) × (bit_of block k ≡ 1))
 
-pub zone-bad : (g : Geometry) (s : Stored) (zone b : ℕ) (block : List ℕ) (o : Option ℕ) → zone < queues_of g → b ≡ zone_bitmap zone → block ≡ block_at s b → Found o block (zone_size g) → is_some o ≡ true → IsCorrupt g s Layout b
+pub zone-bad : (g : Geometry) (s : Stored) (zone b : ℕ) (block : List ℕ) (o : Option ℕ) → zone < queues_of g → b ≡ zone_bitmap zone → block ≡ block_at s b → Found o block (zone_size g) → is_some o ≡ true → BadTable g s b
 zone-bad g s zone b block None low is at f t = absurd (cc)
 zone-bad g s zone b block (Some k) low is at f t = zone_bit zone k low is f.0 f.1 (ap (λ (p : List ℕ). bit_of p k) (sym at) ∙ f.2)
 
-pub inode-bad : (g : Geometry) (s : Stored) (b : ℕ) (block : List ℕ) (o : Option ℕ) (from : ℕ) → from ≡ inodes_of g → b ≡ inode_bitmap g → block ≡ block_at s b → Found o block from → is_some o ≡ true → IsCorrupt g s Layout b
+pub inode-bad : (g : Geometry) (s : Stored) (b : ℕ) (block : List ℕ) (o : Option ℕ) (from : ℕ) → from ≡ inodes_of g → b ≡ inode_bitmap g → block ≡ block_at s b → Found o block from → is_some o ≡ true → BadTable g s b
 inode-bad g s b block None from n is at f t = absurd (cc)
 inode-bad g s b block (Some k) from n is at f t = let h = f.0 in inode_bit k is (omega arith) f.1 (ap (λ (p : List ℕ). bit_of p k) (sym at) ∙ f.2)
 
@@ -65,7 +58,7 @@ pub none-found : (o : Option ℕ) (block : List ℕ) (from : ℕ) → Found o bl
 none-found None block from f t = f
 none-found (Some k) block from f t = absurd (cc)
 
-pub table_inode-bad : (g : Geometry) (s : Stored) (i b at : ℕ) (block : List ℕ) (e : LayoutRefusal) → i < inodes_of g → b ≡ inode_block g i → at ≡ inode_place i → block ≡ block_at s b → wrong_inode block at ≡ Some e → IsCorrupt g s Layout b
+pub table_inode-bad : (g : Geometry) (s : Stored) (i b at : ℕ) (block : List ℕ) (e : LayoutRefusal) → i < inodes_of g → b ≡ inode_block g i → at ≡ inode_place i → block ≡ block_at s b → wrong_inode block at ≡ Some e → BadTable g s b
 table_inode-bad g s i b at block e low is place page wrong = table_inode i e low is (ap (λ (p : List ℕ). wrong_inode p (inode_place i)) (sym page) ∙ ap (λ (k : ℕ). wrong_inode block k) (sym place) ∙ wrong)
 
 -- one inode more was read
@@ -96,15 +89,15 @@ inodes-at g s i d l = table-at (inodes_of g) (the_inode g s) i d l
 pub inodes-some : (g : Geometry) → 0 < inodes_of g
 inodes-some g = let m = g.meta_low in omega arith
 
--- the first inode as it was read
-pub root-read : (g : Geometry) (s : Stored) (xs : List Inode) (d : Inode) → xs ≡ inodes_in g s → get_or xs 0 d ≡ the_inode g s 0
-root-read g s xs d e = ap (λ (ys : List Inode). get_or ys 0 d) e ∙ inodes-at g s 0 d (inodes-some g)
-
 -- a block past the last inode that is not zeros
 pub rest-bad : (g : Geometry) (s : Stored) (b : ℕ) (block : List ℕ) (t : Bool) → table_first g + 1024 ≤ b → b < meta_of g → block ≡ block_at s b
-    → MatchBool t ((k : ℕ) → slice_index block k ≡ 0) ((k : ℕ) × (slice_index block k ≢ 0)) → t ≡ false → IsCorrupt g s Layout b
+    → MatchBool t ((k : ℕ) → slice_index block k ≡ 0) ((k : ℕ) × (slice_index block k ≢ 0)) → t ≡ false → BadTable g s b
 rest-bad g s b block true high low at h e = absurd (true≢false e)
 rest-bad g s b block false high low at h e = table_rest h.0 high low (λ z. h.1 (ap (λ (p : List ℕ). slice_index p h.0) at ∙ z))
+
+pub rest-good : (s : Stored) (b : ℕ) (block : List ℕ) (t : Bool) → block ≡ block_at s b → MatchBool t ((k : ℕ) → slice_index block k ≡ 0) ((k : ℕ) × (slice_index block k ≢ 0)) → t ≡ true → (k : ℕ) → slice_index (block_at s b) k ≡ 0
+rest-good s b block true at h e k = ap (λ (p : List ℕ). slice_index p k) (sym at) ∙ h k
+rest-good s b block false at h e k = absurd (true≢false (sym e))
 
 -- an inode as a loop over them sees it
 pub inode-low : (g : Geometry) (s : Stored) (xs : List Inode) (i : ℕ) → xs ≡ inodes_in g s → i < length xs → i < inodes_of g
@@ -122,12 +115,12 @@ inodes-end g s xs n i e l low = let k = ap length e in let m = length-inodes g s
 pub inodes-past : (g : Geometry) (s : Stored) (xs : List Inode) (n : ℕ) → xs ≡ inodes_in g s → length xs ≤ n → inodes_of g ≤ n
 inodes-past g s xs n e l = let k = ap length e in let m = length-inodes g s in omega arith
 
+-- a loop over all of them ended
+pub inodes-all_seen : (g : Geometry) (s : Stored) (xs : List Inode) (n : ℕ) → xs ≡ inodes_in g s → n ≤ length xs → length xs ≤ n → n ≡ inodes_of g
+inodes-all_seen g s xs n e few all = let k = ap length e in let m = length-inodes g s in omega arith
+
 -- ---- a test of one inode after another
 
 -- it held of the inodes below this one, and holds of this one
 pub each-more : (P : Inode → Type 0) (g : Geometry) (s : Stored) (xs : List Inode) (i : ℕ) (d : Inode) → xs ≡ inodes_in g s → i < length xs → ((k : ℕ) → k < i → P (the_inode g s k)) → P (get_or xs i d) → (k : ℕ) → k < i + 1 → P (the_inode g s k)
 each-more P g s xs i d e l all h = below_more (λ k. P (the_inode g s k)) i all (subst P (inode-seen g s xs i d e l) h)
-
--- it found a block for which the blocks are refused
-pub each-refuses : (P : Inode → Type 0) (g : Geometry) (s : Stored) (xs : List Inode) (i : ℕ) (d : Inode) (cause : CorruptCause) (b : ℕ) (r : MountRefusal) → ((k : ℕ) → k < inodes_of g → P (the_inode g s k) → IsCorrupt g s cause b) → xs ≡ inodes_in g s → i < length xs → r ≡ Corrupt cause b → P (get_or xs i d) → Refuses g s r
-each-refuses P g s xs i d cause b r found e l is h = refuses-at g s cause b r is (found i (inode-low g s xs i e l) (subst P (inode-seen g s xs i d e l) h))

@@ -1,8 +1,8 @@
 -- Slots of the volume, and the inodes that they name.
 use Rattle.std.proofs.Common.{get_or, ◌≡◌, ◌≢◌, ℕ, ◌+◌, ◌*◌, ◌/◌, ◌%◌, ◌<◌, List, length, Bool, true, false, refl, sym, ap, subst, ◌∙◌, arith, inl, inr}
-use Rattle.std.specs.Prelude.{Some, None, not}
+use Rattle.std.specs.Prelude.{MatchOption, Option, Some, None, not}
 use Rattle.std.specs.Bool.{MatchBool}
-use Rattle.std.proofs.lemmas.Bool.{cases_eq, cases_lt, eq-eqb, ne_eqb}
+use Rattle.std.proofs.lemmas.Bool.{cases_Bool, cases_eq, cases_lt, eq-eqb, ne_eqb, true≢false}
 use Rattle.mq_blocks.specs.Blocks.{block_at}
 use Rattle.mq_blocks.specs.Windows.{window}
 use Rattle.mq_blocks.specs.declared.geometry.Geometry.{Geometry}
@@ -13,13 +13,15 @@ use Rattle.mq_layout.specs.declared.inode.Inode.{Inode}
 use Rattle.mq_layout.specs.declared.refusal.LayoutRefusal.{LayoutRefusal}
 use Rattle.mq_layout.specs.declared.slot.Slot.{Slot}
 use Rattle.mq_tree.specs.Clean.{AreDirs, AreNamed, ArePointers, IsDirBlock, IsTable}
-use Rattle.mq_tree.specs.Corrupt.{IsCorrupt, IsSlotIn, names_free, names_root}
-use Rattle.mq_tree.specs.Decoded.{Stored, body_of, count_of, entry_of, inodes_in, part, pointer_to, slot_of, table_of, the_inode, volume_in}
-use Rattle.mq_tree.specs.Parts.{AreDirBlocks, AreNamedIn, HasBadName, IsNamedBy, NameAll, NamesRight}
+use Rattle.mq_tree.specs.Corrupt.{BadName, IsSlotIn, names_free, names_root}
+use Rattle.mq_tree.specs.Decoded.{Stored, body_of, count_of, entry_of, inodes_in, pointer_to, slot_of, table_of, the_inode, volume_in}
+use Rattle.mq_tree.specs.Least.{IsLeast, IsLeastOf, lesser}
+use Rattle.mq_tree.specs.Parts.{AreDirBlocks, HasBadName, IsNamedBy, NameAll, NamesOther, NamesRight}
 use Rattle.mq_tree.specs.Volume.{Body, Node, body, is_used, slot, slots_of}
-use Rattle.mq_tree.specs.declared.corrupt.CorruptCause.TheVariants.{Kind}
 use Rattle.mq_tree.proofs.Decoded.{body-dir, body-file, body-free, body-in, node-past, slot-decoded, slot-not_wrong, table-at, table-past}
 use Rattle.mq_tree.proofs.DecodedMounting.{inode-low, inode-seen, inodes-at, length-inodes}
+use Rattle.mq_tree.proofs.Least.{least-same}
+use Rattle.mq_tree.proofs.LeastBelow.{WrongBelow, below-skip, below-step}
 use Rattle.mq_tree.proofs.Parts.{is-place, used-kind}
 
 -- where a slot of the volume is used
@@ -90,15 +92,41 @@ other-free g s xs i table e some wrong = elim (cases_lt i (inodes_of g)) [
       ]
 ]
 
-pub names-all : (g : Geometry) (s : Stored) (xs : List Inode) → IsTable g s → xs ≡ inodes_in g s → ((i : ℕ) → i < inodes_of g → AreNamedIn s xs (the_inode g s i)) → AreNamed (volume_in g s)
-names-all g s xs table e all d k entry there =
-    let p = slot-found g s d k entry table there in
-    let inside = p.inside in
-    let place : k / 15 < count_of (the_inode g s d) = omega arith in
-    let h = all d p.low p.dir (k / 15) place (k % 15) (omega arith) entry p.is in
-    (h.not_root, named-used g s xs entry.inode table e h)
+-- the inode of this number has such a block
+abbrev pub NamedAt : Geometry → Stored → List Inode → (i c : ℕ) → Type 0
+NamedAt g s xs i c = HasBadName s xs (the_inode g s i) c
 
-pub name-found : (g : Geometry) (s : Stored) (xs : List Inode) (i b : ℕ) → IsTable g s → ArePointers g s → xs ≡ inodes_in g s → i < inodes_of g → HasBadName s xs (the_inode g s i) b → IsCorrupt g s Kind b
+abbrev pub NamedIn : Geometry → Stored → List Inode → (c : ℕ) → Type 0
+NamedIn g s xs c = WrongBelow (NamedAt g s xs) (inodes_of g) c
+
+-- a slot of the volume that may not stand there is one of its directory's
+bad-entry : (g : Geometry) (s : Stored) (xs : List Inode) (d k : ℕ) (e : Entry) (b : ℕ) → IsTable g s → IsSlotIn g s d k e b → (IsNamedBy xs e.inode → ⊥) → NamedIn g s xs b
+bad-entry g s xs d k e b table at wrong =
+    let p = slot-found g s d k e table at.there in
+    let inside = p.inside in
+    record {
+      j = d;
+      low = p.low;
+      wrong = record {
+        place = k / 15;
+        dir = p.dir;
+        inside = omega arith;
+        is = at.place.is;
+        other = record {
+          at = k % 15;
+          e = e;
+          small = omega arith;
+          there = ap (λ (c : ℕ). slot_of (block_at s c) (k % 15)) at.place.is ∙ p.is;
+          wrong = wrong;
+        };
+      };
+    }
+
+name-lost : (g : Geometry) (s : Stored) (xs : List Inode) (b : ℕ) → IsTable g s → xs ≡ inodes_in g s → BadName g s b → NamedIn g s xs b
+name-lost g s xs b table e (names_root d k entry at zero) = bad-entry g s xs d k entry b table at (λ h. h.not_root zero)
+name-lost g s xs b table e (names_free d k entry at free) = bad-entry g s xs d k entry b table at (λ h. true≢false (sym (named-used g s xs entry.inode table e h) ∙ free))
+
+name-found : (g : Geometry) (s : Stored) (xs : List Inode) (i b : ℕ) → IsTable g s → ArePointers g s → xs ≡ inodes_in g s → i < inodes_of g → HasBadName s xs (the_inode g s i) b → BadName g s b
 name-found g s xs i b table pointers e low t =
     let o = t.other in
     let k = 15 * t.place + o.at in
@@ -113,6 +141,70 @@ name-found g s xs i b table pointers e low t =
       | inl zero ↦ names_root i k o.e at zero
       | inr some ↦ names_free i k o.e at (other-free g s xs o.e.inode table e some o.wrong)
     ]
+
+names-none : (g : Geometry) (s : Stored) → IsTable g s → ArePointers g s → ((c : ℕ) → BadName g s c → ⊥) → AreNamed (volume_in g s)
+names-none g s table pointers none d k e there =
+    let at = slot-in g s d k e table pointers there in (
+      λ zero. none _ (names_root d k e at zero),
+      elim (cases_Bool (is_used (body (volume_in g s) e.inode))) [
+        | inl used ↦ used
+        | inr free ↦ absurd (none _ (names_free d k e at free))
+      ],
+    )
+
+-- what a search over all inodes says of the volume
+pub names-least : (g : Geometry) (s : Stored) (xs : List Inode) (n : ℕ) (r : Option ℕ) → IsTable g s → ArePointers g s → xs ≡ inodes_in g s → n ≡ length xs → IsLeastOf (WrongBelow (NamedAt g s xs) n) r
+    → MatchOption r (AreNamed (volume_in g s)) (IsLeast (BadName g s))
+names-least g s xs n r table pointers e all found =
+    let all : n ≡ inodes_of g = all ∙ ap length e ∙ length-inodes g s in
+    by r (least-same (NamedIn g s xs) (BadName g s) r
+    (λ c h. name-found g s xs h.j c table pointers e h.low h.wrong) (λ c h. name-lost g s xs c table e h)
+    (subst (λ m. IsLeastOf (WrongBelow (NamedAt g s xs) m) r) all found))
+  where
+    by : (r : Option ℕ) → IsLeastOf (BadName g s) r → MatchOption r (AreNamed (volume_in g s)) (IsLeast (BadName g s))
+    by None h = names-none g s table pointers h
+    by (Some b) h = h
+
+-- one inode more was looked at
+pub names-more : (g : Geometry) (s : Stored) (xs : List Inode) (i : ℕ) (d : Inode) (a b r : Option ℕ) → xs ≡ inodes_in g s → i < length xs → IsLeastOf (WrongBelow (NamedAt g s xs) i) a → IsLeastOf (HasBadName s xs (get_or xs i d)) b → r ≡ lesser a b
+    → IsLeastOf (WrongBelow (NamedAt g s xs) (i + 1)) r
+names-more g s xs i d a b r e low old new is = below-step (NamedAt g s xs) i a b r old (subst (λ n. IsLeastOf (HasBadName s xs n) b) (inode-seen g s xs i d e low) new) is
+
+-- ---- block by block
+
+-- the block at this place has such a slot
+abbrev pub OtherAt : Stored → List Inode → Inode → (place c : ℕ) → Type 0
+OtherAt s xs n place c = (c ≡ pointer_to s n place) × NamesOther xs (block_at s c)
+
+pub not-all : (xs : List Inode) (block : List ℕ) (t : Bool) → MatchBool t (NameAll xs block) (NamesOther xs block) → t ≡ false → NamesOther xs block
+not-all xs block true h is = absurd (true≢false is)
+not-all xs block false h is = h
+
+pub all-named : (xs : List Inode) (block : List ℕ) (t : Bool) → MatchBool t (NameAll xs block) (NamesOther xs block) → t ≡ true → NameAll xs block
+all-named xs block true h is = h
+all-named xs block false h is = absurd (true≢false (sym is))
+
+pub other-more : (s : Stored) (xs : List Inode) (n : Inode) (place b : ℕ) (block : List ℕ) (a r : Option ℕ) → b ≡ pointer_to s n place → block ≡ block_at s b → NamesOther xs block → IsLeastOf (WrongBelow (OtherAt s xs n) place) a → r ≡ lesser a (Some b)
+    → IsLeastOf (WrongBelow (OtherAt s xs n) (place + 1)) r
+other-more s xs n place b block a r is page other old now =
+    below-step (OtherAt s xs n) place a (Some b) r old
+    (record { wrong = (is, subst (λ p. NamesOther xs p) page other); least = λ c h. (let at = h.0 in omega arith) }) now
+
+pub other-skip : (s : Stored) (xs : List Inode) (n : Inode) (place b : ℕ) (block : List ℕ) (a r : Option ℕ) → b ≡ pointer_to s n place → block ≡ block_at s b → NameAll xs block → IsLeastOf (WrongBelow (OtherAt s xs n) place) a → r ≡ a
+    → IsLeastOf (WrongBelow (OtherAt s xs n) (place + 1)) r
+other-skip s xs n place b block a r is page all old now =
+    subst (λ o. IsLeastOf (WrongBelow (OtherAt s xs n) (place + 1)) o) (sym now)
+    (below-skip (OtherAt s xs n) place a old (λ c h.
+    let o = h.1 in
+    let same : c ≡ b = h.0 ∙ sym is in
+    let there : slot_of block o.at ≡ Some o.e = ap (λ (p : List ℕ). slot_of p o.at) (page ∙ ap (λ (k : ℕ). block_at s k) (sym same)) ∙ o.there in
+    o.wrong (all o.at o.small o.e there)))
+
+pub other-all : (s : Stored) (xs : List Inode) (n : Inode) (place : ℕ) (r : Option ℕ) → n.kind ≡ 2 → place ≡ count_of n → IsLeastOf (WrongBelow (OtherAt s xs n) place) r → IsLeastOf (HasBadName s xs n) r
+other-all s xs n place r two all found = least-same (WrongBelow (OtherAt s xs n) place) (HasBadName s xs n) r
+    (λ c h. record { place = h.j; dir = two; inside = (let low = h.low in omega arith); is = h.wrong.0; other = h.wrong.1 })
+    (λ c h. record { j = h.place; low = (let inside = h.inside in omega arith); wrong = (h.is, h.other) })
+    found
 
 -- ---- slots of a block as they are read
 
@@ -135,6 +227,3 @@ dir-seen g s xs i d e l dirs = subst (λ n. AreDirBlocks s n) (sym (inode-seen g
 
 pub block-seen : (s : Stored) (n : Inode) (place b : ℕ) (block : List ℕ) → AreDirBlocks s n → n.kind ≡ 2 → place < count_of n → b ≡ pointer_to s n place → block ≡ block_at s b → IsDirBlock block
 block-seen s n place b block dir two inside is page = subst (λ p. IsDirBlock p) (sym (page ∙ ap (λ (c : ℕ). block_at s c) is)) (dir two place inside)
-
-pub names-at : (xs : List Inode) (s : Stored) (n : Inode) (place b : ℕ) (block : List ℕ) → b ≡ pointer_to s n place → block ≡ block_at s b → NameAll xs block → NameAll xs (part s n place)
-names-at xs s n place b block is page all = subst (λ p. NameAll xs p) (page ∙ ap (λ (c : ℕ). block_at s c) is) all

@@ -18,17 +18,17 @@ use Rattle.mq_layout.specs.Places.{inodes_of}
 use Rattle.mq_layout.specs.Slots.{Entry}
 use Rattle.mq_layout.specs.declared.inode.Inode.{Inode}
 use Rattle.mq_tree.specs.Clean.{AreOnce, ArePointers, IsTable}
-use Rattle.mq_tree.specs.Corrupt.{IsCorrupt, IsSlotIn, Refuses}
+use Rattle.mq_tree.specs.Corrupt.{IsSlotIn, IsTwin}
 use Rattle.mq_tree.specs.Decoded.{Stored, body_of, count_of, entry_of, pointer_to, table_of, the_inode, volume_in}
-use Rattle.mq_tree.specs.Directories.{Adds, AreSameNames, Has, HasTwin, IsOnce, OnceBelow, RefusesTwin, as_slots}
+use Rattle.mq_tree.specs.Directories.{Adds, AreSameNames, Has, HasTwin, IsOnce, Leads, OnceBelow, as_slots}
+use Rattle.mq_tree.specs.Least.{IsLeastOf}
 use Rattle.mq_tree.specs.ListText.{entries_in, insert_entry as insert_in_order}
 use Rattle.mq_tree.specs.Volume.{find, slots_of}
-use Rattle.mq_tree.specs.declared.corrupt.CorruptCause.TheVariants.{Twin}
-use Rattle.mq_tree.specs.declared.corrupt.MountRefusal.{MountRefusal}
-use Rattle.mq_tree.specs.declared.corrupt.MountRefusal.TheVariants.{Corrupt, OutOfMemory}
-use Rattle.mq_tree.proofs.Decoded.{body-dir, length-table, table-at}
+use Rattle.mq_tree.proofs.Decoded.{body-dir, table-at}
 use Rattle.mq_tree.proofs.DecodedMounting.{table-more}
 use Rattle.mq_tree.proofs.DecodedNaming.{none-entry, slot-found, slot-in, slot-is}
+use Rattle.mq_tree.proofs.Least.{least-same}
+use Rattle.mq_tree.proofs.LeastBelow.{WrongBelow}
 use Rattle.mq_tree.proofs.ListTextSorting.{entries-push, entries-skip, insert-swap}
 
 -- ---- names that are the same
@@ -105,11 +105,15 @@ entries-insert {A} (e ∷ es) k v absent =
         ap (insert_in_order (record { inode = e.1; name = e.0.items })) rest
         ∙ insert-swap (record { inode = e.1; name = e.0.items }) (record { inode = v; name = k.items }) (entries_in (as_slots es)) (λ same. true≢false (sym (same-name e.0.items k.items same) ∙ other))
 
+pub led : {A : Type 0} (es new : List (Vec ℕ A × ℕ)) (xs : List (Option Entry)) (k : Vec ℕ A) (name : List ℕ) (v : ℕ) → as_slots es ≡ xs → k.items ≡ name → new ≡ insert_entry (λ x y. slice_cmp nat_cmp x.items y.items) es k v → Leads xs (as_slots new) name v
+led es new xs k name v e is now = λ q.
+    ap (λ (ys : List _). find q (as_slots ys)) now ∙ find-insert es k v q ∙ ap (λ (n : List ℕ). if bytes_eq n q then Some v else find q (as_slots es)) is ∙ ap (λ (ys : List (Option Entry)). if bytes_eq name q then Some v else find q ys) e
+
 pub added : {A : Type 0} (es new : List (Vec ℕ A × ℕ)) (xs : List (Option Entry)) (k : Vec ℕ A) (name : List ℕ) (v : ℕ) (before : Option ℕ) (t : Bool) → as_slots es ≡ xs → k.items ≡ name
     → before ≡ lookup (λ x. is_eq (slice_cmp nat_cmp k.items x.items)) es → new ≡ insert_entry (λ x y. slice_cmp nat_cmp x.items y.items) es k v → is_some before ≡ not t → MatchBool t (Adds xs (as_slots new) name v) (Has xs name)
 added es new xs k name v None true e is was now there = record {
   missing = ap (find name) (sym e) ∙ ap (λ (n : List ℕ). find n (as_slots es)) (sym is) ∙ absent;
-  finds = λ q. ap (λ (ys : List _). find q (as_slots ys)) now ∙ find-insert es k v q ∙ ap (λ (n : List ℕ). if bytes_eq n q then Some v else find q (as_slots es)) is ∙ ap (λ (ys : List (Option Entry)). if bytes_eq name q then Some v else find q ys) e;
+  finds = led es new xs k name v e is now;
   entries = ap (λ (ys : List _). entries_in (as_slots ys)) now ∙ entries-insert es k v absent ∙ ap (λ (n : List ℕ). insert_in_order (record { inode = v; name = n }) (entries_in (as_slots es))) is ∙ ap (λ (ys : List (Option Entry)). insert_in_order (record { inode = v; name = name }) (entries_in ys)) e;
 }
   where
@@ -174,9 +178,6 @@ find-some (Some f ∷ xs) name i h = elim (cases_Bool (bytes_eq f.name name)) [
 pub record Built (at : ℕ → Option Entry) (k : ℕ) (names : List (Option Entry)) : Type 0 where
   pub alike : AreSameNames names (table_of k at)
   pub once : OnceBelow at k
-
-pub built-start : (at : ℕ → Option Entry) (names : List (Option Entry)) → names ≡ [] → Built at 0 names
-built-start at names e = record { alike = record { finds = λ q. ap (find q) e; entries = ap entries_in e }; once = λ k l d f low. absurd (omega arith) }
 
 table-push : (at : ℕ → Option Entry) (k : ℕ) → table_of (k + 1) at ≡ table_of k at ++ at k ∷ []
 table-push at k = sym (table-more at k (table_of k at) (table_of k at ++ at k ∷ []) (at k) refl refl refl)
@@ -253,40 +254,12 @@ built-add at k names more e b h a = record { alike = record { finds = finds; ent
 pub alike-all : (s : Stored) (n : Inode) (k : ℕ) (names : List (Option Entry)) → n.kind ≡ 2 → k ≡ 15 * count_of n → Built (entry_of s n) k names → AreSameNames names (slots_of (body_of s n))
 alike-all s n k names two e b = subst (λ xs. AreSameNames names xs) (ap (λ (m : ℕ). table_of m (entry_of s n)) e ∙ sym (ap slots_of (body-dir s n two))) b.alike
 
-pub once-all : (s : Stored) (n : Inode) (k : ℕ) (names : List (Option Entry)) → k ≡ 15 * count_of n → Built (entry_of s n) k names → IsOnce s n
-once-all s n k names e b two = subst (λ m. OnceBelow (entry_of s n) m) e b.once
-
-pub twin-at : (s : Stored) (n : Inode) (k b : ℕ) (names : List (Option Entry)) (e : Entry) (r : MountRefusal) → n.kind ≡ 2 → k < 15 * count_of n → Built (entry_of s n) k names → entry_of s n k ≡ Some e → Has names e.name → b ≡ pointer_to s n (k / 15)
-    → r ≡ Corrupt Twin b → RefusesTwin s n r
-twin-at s n k b names e r two inside built there has is refusal =
-    let x = find-some (table_of k (entry_of s n)) e.name has.0 (sym (built.alike.finds e.name) ∙ has.1) in
-    let low : x.k < k = let l = x.inside in let m = length-table k (entry_of s n) in omega arith in
-    subst (RefusesTwin s n) (sym refusal) (
-      refl,
-      record {
-        k = k;
-        l = x.k;
-        e = e;
-        f = x.e;
-        dir = two;
-        inside = inside;
-        other = omega arith;
-        first = there;
-        second = sym (table-at k (entry_of s n) x.k None low) ∙ x.there;
-        same = sym x.same;
-        apart = (λ y. absurd (omega arith));
-        is = is;
-      },
-    )
-
 -- ---- all directories
 
-pub twin-found : (g : Geometry) (s : Stored) (i : ℕ) (n : Inode) (r : MountRefusal) → IsTable g s → ArePointers g s → n ≡ the_inode g s i → i < inodes_of g → RefusesTwin s n r → Refuses g s r
-twin-found g s i n OutOfMemory table pointers e low h = tt
-twin-found g s i n (Corrupt cause b) table pointers e low h =
-    let t : HasTwin s (the_inode g s i) b = subst (λ m. HasTwin s m b) e h.1 in
+pub twin-found : (g : Geometry) (s : Stored) (i b : ℕ) → IsTable g s → ArePointers g s → i < inodes_of g → HasTwin s (the_inode g s i) b → IsTwin g s b
+twin-found g s i b table pointers low t =
     let first = slot-in g s i t.k t.e table pointers (slot-is g s i t.k t.e (record { low = low; dir = t.dir; inside = t.inside; is = t.first })) in
-    subst (λ c. IsCorrupt g s c b) (sym h.0) (record {
+    record {
       d = i;
       k = t.k;
       l = t.l;
@@ -297,21 +270,31 @@ twin-found g s i n (Corrupt cause b) table pointers e low h =
       second = slot-in g s i t.l t.f table pointers (slot-is g s i t.l t.f (record { low = low; dir = t.dir; inside = t.other; is = t.second }));
       same = t.same;
       apart = t.apart;
-    })
+    }
+
+-- the inode of this number has such a name
+abbrev pub TwinAt : Geometry → Stored → (i c : ℕ) → Type 0
+TwinAt g s i c = HasTwin s (the_inode g s i) c
+
+pub twin-lost : (g : Geometry) (s : Stored) (b : ℕ) → IsTable g s → IsTwin g s b → WrongBelow (TwinAt g s) (inodes_of g) b
+twin-lost g s b table t =
+    let p = slot-found g s t.d t.k t.e table t.first.there in
+    let q = slot-found g s t.d t.l t.f table t.second.there in
+    record {
+      j = t.d;
+      low = p.low;
+      wrong = record { k = t.k; l = t.l; e = t.e; f = t.f; dir = p.dir; inside = p.inside; other = q.inside; first = p.is; second = q.is; same = t.same; apart = t.apart; is = t.first.place.is };
+    }
+
+-- what a search over all inodes says of the volume
+pub twin-all : (g : Geometry) (s : Stored) (n : ℕ) (r : Option ℕ) → IsTable g s → ArePointers g s → n ≡ inodes_of g → IsLeastOf (WrongBelow (TwinAt g s) n) r → IsLeastOf (IsTwin g s) r
+twin-all g s n r table pointers all found =
+    least-same (WrongBelow (TwinAt g s) (inodes_of g)) (IsTwin g s) r
+    (λ c h. twin-found g s h.j c table pointers h.low h.wrong) (λ c h. twin-lost g s c table h)
+    (subst (λ m. IsLeastOf (WrongBelow (TwinAt g s) m) r) all found)
 
 pub once-volume : (g : Geometry) (s : Stored) → IsTable g s → ((i : ℕ) → i < inodes_of g → IsOnce s (the_inode g s i)) → AreOnce (volume_in g s)
 once-volume g s table all d k l e f first second same =
     let p = slot-found g s d k e table first in
     let q = slot-found g s d l f table second in
     all d p.low p.dir k l e f p.inside q.inside p.is q.is same
-
-pub built-found : (at : ℕ → Option Entry) (k : ℕ) (names more now : List (Option Entry)) (e : Entry) (t : Bool) → Built at k names → at k ≡ Some e → MatchBool t (Adds names more e.name e.inode) (Has names e.name) → t ≡ true → now ≡ more → Built at (k + 1) now
-built-found at k names more now e true b h a is same = subst (λ xs. Built at (k + 1) xs) (sym same) (built-add at k names more e b h a)
-built-found at k names more now e false b h a is same = absurd (true≢false (sym is))
-
-pub built-unused : (at : ℕ → Option Entry) (k : ℕ) (names now : List (Option Entry)) → Built at k names → at k ≡ None → now ≡ names → Built at (k + 1) now
-built-unused at k names now b h same = subst (λ xs. Built at (k + 1) xs) (sym same) (built-skip at k names b h)
-
-pub has-twin : (names more : List (Option Entry)) (e : Entry) (t : Bool) → MatchBool t (Adds names more e.name e.inode) (Has names e.name) → t ≡ false → Has names e.name
-has-twin names more e true h is = absurd (true≢false is)
-has-twin names more e false h is = h

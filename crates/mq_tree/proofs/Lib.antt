@@ -1,4 +1,5 @@
 pub mod CleanLaid
+pub mod ContentsTwins
 pub mod CorruptRefuted
 pub mod Counting
 pub mod CountsSums
@@ -6,11 +7,15 @@ pub mod Decoded
 pub mod DecodedClaiming
 pub mod DecodedMounting
 pub mod DecodedNaming
+pub mod DirMarks
 pub mod Directories
+pub mod DirectoriesTwins
 pub mod Empty
 pub mod Faults
 pub mod FaultsExact
 pub mod FaultsOnly
+pub mod FileTails
+pub mod FirstFindings
 pub mod Free
 pub mod FreeUses
 pub mod KeptAsks
@@ -24,10 +29,16 @@ pub mod LaidMaps
 pub mod LaidRegions
 pub mod LaidUnique
 pub mod LaidUses
+pub mod Least
+pub mod LeastBelow
+pub mod LeastEach
+pub mod LinksCounted
+pub mod LinksShared
 pub mod ListText
 pub mod ListTextSorting
-pub mod LinksCounted
 pub mod Listings
+pub mod Marks
+pub mod MarksFirst
 pub mod Members
 pub mod Parts
 pub mod PointersByInode
@@ -36,6 +47,7 @@ pub mod RequestsNodes
 pub mod RequestsTargets
 pub mod RequestsVerdicts
 pub mod SoundVolumes
+pub mod TablesFirst
 pub mod TreesKeeping
 pub mod TreesMounted
 pub mod TreesWalkways

@@ -12,11 +12,10 @@ use Rattle.mq_layout.specs.Places.{inode_block, inodes_of}
 use Rattle.mq_layout.specs.Slots.{Entry}
 use Rattle.mq_layout.specs.declared.inode.Inode.{Inode}
 use Rattle.mq_tree.specs.Clean.{AreNamed, IsTable}
-use Rattle.mq_tree.specs.Corrupt.{IsCorrupt}
+use Rattle.mq_tree.specs.Corrupt.{IsMiscounted}
 use Rattle.mq_tree.specs.Decoded.{Stored, body_of, count_of, entry_of, node_of, table_of, the_inode, volume_in}
 use Rattle.mq_tree.specs.Links.{links_to, names, names_among}
 use Rattle.mq_tree.specs.Volume.{Body, Node, slots_of}
-use Rattle.mq_tree.specs.declared.corrupt.CorruptCause.TheVariants.{Count}
 use Rattle.mq_tree.proofs.Counting.{names-it, names-other}
 use Rattle.mq_tree.proofs.Decoded.{body-dir, body-file, body-free, length-table}
 use Rattle.mq_tree.proofs.Walks.{slot-entry, used-below}
@@ -201,6 +200,6 @@ linked-more g s i n count true h is e m y j low = elim (cases_eq j i) [
 ]
 
 pub linked-other : (g : Geometry) (s : Stored) (i b : ℕ) (n : Inode) (count : ℕ) (t : Bool) → i < inodes_of g → n ≡ the_inode g s i → count ≡ links_to (volume_in g s) i
-    → MatchBool t (n.kind ≡ 1 → n.links ≡ count) ((n.kind ≡ 1) × (n.links ≢ count)) → t ≡ false → b ≡ inode_block g i → IsCorrupt g s Count b
+    → MatchBool t (n.kind ≡ 1 → n.links ≡ count) ((n.kind ≡ 1) × (n.links ≢ count)) → t ≡ false → b ≡ inode_block g i → IsMiscounted g s b
 linked-other g s i b n count true low is e m y at = absurd (true≢false y)
 linked-other g s i b n count false low is e m y at = record { i = i; low = low; file = ap (λ (x : Inode). x.kind) (sym is) ∙ m.0; at = at; other = λ z. m.1 (ap (λ (x : Inode). x.links) is ∙ z ∙ sym e) }

@@ -17,15 +17,12 @@ use Rattle.mq_layout.specs.declared.refusal.LayoutRefusal.{LayoutRefusal}
 use Rattle.mq_layout.specs.declared.slot.Slot.{Slot}
 use Rattle.mq_layout.proofs.FieldsZeros.{length-zero_bytes, zero_bytes-at}
 use Rattle.mq_tree.specs.Clean.{AreMarked, ArePointers, IsInZone, IsTable}
-use Rattle.mq_tree.specs.Corrupt.{IsCorrupt, IsPlace, IsUsedFor, behind_slots, in_slot, unmarked_block, unmarked_inode, unused_block, unused_inode}
+use Rattle.mq_tree.specs.Corrupt.{HasTail, IsPlace, IsUsedFor}
 use Rattle.mq_tree.specs.Decoded.{Stored, body_of, byte_of, count_of, pointer_to, slot_of, the_inode, volume_in}
 use Rattle.mq_tree.specs.Laid.{zone_block}
-use Rattle.mq_tree.specs.Parts.{HasBadBlock, HasEndAt, IsEnded}
+use Rattle.mq_tree.specs.Parts.{HasEndAt, IsEnded}
 use Rattle.mq_tree.specs.Volume.{Use, Part, Pointers, block_in, body, is_taken, is_used, Node}
-use Rattle.mq_tree.specs.declared.corrupt.CorruptCause.{CorruptCause}
-use Rattle.mq_tree.specs.declared.corrupt.CorruptCause.TheVariants.{Layout, Tail, Unmarked, Unreached}
-use Rattle.mq_tree.specs.declared.corrupt.MountRefusal.{MountRefusal}
-use Rattle.mq_tree.proofs.Decoded.{body-dir, body-file, body-free, body-in, indirect-found, node-past, part-found, slot-decoded, taken-use}
+use Rattle.mq_tree.proofs.Decoded.{body-dir, body-file, body-free, body-in, indirect-found, node-past, part-found, slot-decoded}
 
 -- ---- places in zones
 
@@ -64,18 +61,10 @@ end-good s n b bytes some is page all k file past inside =
 
 -- ---- what a test of one inode found
 
-pub tail-found : (g : Geometry) (s : Stored) (i b : ℕ) → ArePointers g s → i < inodes_of g → HasEndAt s (the_inode g s i) b → IsCorrupt g s Tail b
+pub tail-found : (g : Geometry) (s : Stored) (i b : ℕ) → ArePointers g s → i < inodes_of g → HasEndAt s (the_inode g s i) b → HasTail g s b
 tail-found g s i b pointers low t =
     let l = t.inside in
     record { i = i; k = t.k; low = low; file = t.file; past = t.past; inside = t.inside; place = is-place g s i (t.k / 4096) b pointers low (omega arith) t.is; not_zero = t.not_zero }
-
-pub dir-found : (g : Geometry) (s : Stored) (i b : ℕ) → ArePointers g s → i < inodes_of g → HasBadBlock s (the_inode g s i) b → IsCorrupt g s Layout b
-dir-found g s i b pointers low t =
-    let p = is-place g s i t.place b pointers low t.inside t.is in
-    elim t.bad [
-      | inl x ↦ in_slot i t.place x.0 x.1 low t.dir t.inside p x.2 x.3
-      | inr x ↦ behind_slots i t.place x.0 low t.dir t.inside p x.1 x.2 x.3
-    ]
 
 -- ---- blocks of slots
 
@@ -119,23 +108,6 @@ used-kind g s i n table low e = ap is_used (body-in g s i low) ∙ go ∙ ap (λ
               ]
         ]
 
--- a bit that is not as it should be
-pub zone-mark_bad : (g : Geometry) (s : Stored) (zone k b : ℕ) (bit t : Bool) (cause : CorruptCause) → ArePointers g s → zone < queues_of g → k < zone_size g → b ≡ zone_bitmap zone → (if bit then 1 else 0) ≡ bit_of (block_at s b) k → is_taken (volume_in g s) (zone_block g zone k) ≡ t → (bit ≡ t → ⊥)
-    → cause ≡ (if t then Unmarked else Unreached) → IsCorrupt g s cause b
-zone-mark_bad g s zone k b true true cause pointers low small is at taken other e = absurd (other refl)
-zone-mark_bad g s zone k b false false cause pointers low small is at taken other e = absurd (other refl)
-zone-mark_bad g s zone k b false true cause pointers low small is at taken other e =
-    let u = taken-use (volume_in g s) (zone_block g zone k) taken in
-    subst (λ c. IsCorrupt g s c b) (sym e) (unmarked_block zone k u.0 low small is (used-for g s u.0 (zone_block g zone k) pointers u.1) (sym at))
-zone-mark_bad g s zone k b true false cause pointers low small is at taken other e = subst (λ c. IsCorrupt g s c b) (sym e) (unused_block zone k low small is taken (sym at))
-
-pub inode-mark_bad : (g : Geometry) (s : Stored) (i b : ℕ) (bit t : Bool) (cause : CorruptCause) → i < inodes_of g → b ≡ inode_bitmap g → (if bit then 1 else 0) ≡ bit_of (block_at s b) i → is_used (body (volume_in g s) i) ≡ t → (bit ≡ t → ⊥)
-    → cause ≡ (if t then Unmarked else Unreached) → IsCorrupt g s cause b
-inode-mark_bad g s i b true true cause low is at used other e = absurd (other refl)
-inode-mark_bad g s i b false false cause low is at used other e = absurd (other refl)
-inode-mark_bad g s i b false true cause low is at used other e = subst (λ c. IsCorrupt g s c b) (sym e) (unmarked_inode i low is used (sym at))
-inode-mark_bad g s i b true false cause low is at used other e = subst (λ c. IsCorrupt g s c b) (sym e) (unused_inode i low is used (sym at))
-
 pub marks-all : (g : Geometry) (s : Stored) → IsTable g s
     → ((z : ℕ) → z < queues_of g → (k : ℕ) → k < zone_size g → bit_of (block_at s (zone_bitmap z)) k ≡ (if is_taken (volume_in g s) (zone_block g z k) then 1 else 0))
     → ((i : ℕ) → i < inodes_of g → bit_of (block_at s (inode_bitmap g)) i ≡ (if is_used (body (volume_in g s) i) then 1 else 0)) → AreMarked g s
@@ -149,7 +121,3 @@ marks-all g s table zones inodes = record {
     | inr past ↦ table.marks k past small ∙ sym (ap (λ (m : Node). if is_used m.body then 1 else 0) (node-past g s k past))
   ];
 }
-
-pub marks-ok : {X : Type 0} (P Q : Type 0) (r : Result X MountRefusal) → IfOk r (λ _. P) → (P → Q) → IfOk r (λ _. Q)
-marks-ok P Q (Ok x) h f = f h
-marks-ok P Q (Err e) h f = tt

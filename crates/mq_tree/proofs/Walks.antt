@@ -9,16 +9,16 @@ use Rattle.mq_blocks.specs.declared.geometry.Geometry.{Geometry}
 use Rattle.mq_layout.specs.Places.{inode_block, inodes_of}
 use Rattle.mq_layout.specs.Slots.{Entry}
 use Rattle.mq_layout.specs.declared.inode.Inode.{Inode}
-use Rattle.mq_tree.specs.Clean.{AreNamed, AreOnce, ArePointers, AreReached, IsTable}
-use Rattle.mq_tree.specs.Corrupt.{IsCorrupt, lost_inode, shared_inode}
+use Rattle.mq_tree.specs.Clean.{AreNamed, AreNamedOnce, AreOnce, AreReached, IsTable}
+use Rattle.mq_tree.specs.Corrupt.{IsCorrupt, lost_inode}
 use Rattle.mq_tree.specs.Decoded.{Stored, body_of, count_of, entry_of, inodes_in, the_inode, volume_in}
 use Rattle.mq_tree.specs.Volume.{ADir, AFile, Body, Free, File, Dir, Node, Volume, Way, body, find, inode_at, is_used, slot, slots_of, thing}
 use Rattle.mq_tree.specs.Walks.{Finds, IsLooked, IsOrder, IsWalk, IsWholeWalk, Starts, Walked, is_seen, weight}
-use Rattle.mq_tree.specs.declared.corrupt.CorruptCause.TheVariants.{Shared, Unreached}
+use Rattle.mq_tree.specs.declared.corrupt.CorruptCause.TheVariants.{Unreached}
 use Rattle.mq_tree.proofs.Directories.{find-none, find-some}
 use Rattle.mq_tree.proofs.Decoded.{body-dir, body-file, body-free, body-in, node-past, table-at}
 use Rattle.mq_tree.proofs.DecodedMounting.{length-inodes}
-use Rattle.mq_tree.proofs.DecodedNaming.{slot-found, slot-in}
+use Rattle.mq_tree.proofs.DecodedNaming.{slot-found}
 use Rattle.mq_tree.proofs.Parts.{used-kind}
 
 -- ---- slots and names
@@ -58,10 +58,6 @@ looked-more order done part d k (inr h) = elim (cases_eq k part) [
   | inr n ↦ inl (inr (h.0, let l = h.1 in omega arith))
 ]
 
-more-looked : (order : List ℕ) (done part d k : ℕ) → IsLooked order done part d k → IsLooked order done (part + 1) d k
-more-looked order done part d k (inl h) = inl h
-more-looked order done part d k (inr h) = inr (h.0, let l = h.1 in omega arith)
-
 -- an inode more at the end of the order changes nothing before
 pushed : (order : List ℕ) (i done j : ℕ) → done < length order → j ≤ done → get_or (order ++ i ∷ []) j 0 ≡ get_or order j 0
 pushed order i done j inside low = get_or_append_left order (i ∷ []) 0 j (omega arith)
@@ -70,84 +66,54 @@ looked-back : (order : List ℕ) (i done part d k : ℕ) → done < length order
 looked-back order i done part d k inside (inl h) = inl (h.0, h.1, sym (pushed order i done h.0 inside (let l = h.1 in omega arith)) ∙ h.2)
 looked-back order i done part d k inside (inr h) = inr (sym (pushed order i done done inside (omega arith)) ∙ h.0, h.1)
 
-looked-on : (order : List ℕ) (i done part d k : ℕ) → done < length order → IsLooked order done part d k → IsLooked (order ++ i ∷ []) done part d k
-looked-on order i done part d k inside (inl h) = inl (h.0, h.1, pushed order i done h.0 inside (let l = h.1 in omega arith) ∙ h.2)
-looked-on order i done part d k inside (inr h) = inr (pushed order i done done inside (omega arith) ∙ h.0, h.1)
-
 -- ---- the walk
 
-walk-same : (v : Volume) (seen : List Bool) (looked next : ℕ → ℕ → Type 0) → IsWalk v seen looked → ((d k : ℕ) (e : Entry) → next d k → slot v d k ≡ Some e → looked d k) → ((d k : ℕ) → looked d k → next d k) → IsWalk v seen next
-walk-same v seen looked next w back on = record {
+-- one slot has one entry
+slot-same : (v : Volume) (d k c l : ℕ) (e f : Entry) → slot v d k ≡ Some e → (d ≡ c) × (l ≡ k) → slot v c l ≡ Some f → e.inode ≡ f.inode
+slot-same v d k c l e f there q h =
+    let g = sym there ∙ ap (λ (a : ℕ). slot v a k) q.0 ∙ ap (λ (b : ℕ). slot v c b) (sym q.1) ∙ h in
+    let same : e ≡ f = cc in
+    ap (λ (y : Entry). y.inode) same
+
+walk-same : (v : Volume) (seen : List Bool) (looked next : ℕ → ℕ → Type 0) → IsWalk v seen looked → ((d k : ℕ) (e : Entry) → next d k → slot v d k ≡ Some e → looked d k) → IsWalk v seen next
+walk-same v seen looked next w back = record {
   reached = w.reached;
   root = w.root;
   closed = λ d k e l there. w.closed d k e (back d k e l there) there;
-  named = λ i t some. let n = w.named i t some in (n.0, n.1, n.2, on n.0 n.1 n.3, n.4, n.5);
-  once = λ d k c l e f x y there here. w.once d k c l e f (back d k e x there) (back c l f y here) there here;
 }
 
-walk-mark : (v : Volume) (seen : List Bool) (looked next : ℕ → ℕ → Type 0) (d k : ℕ) (e : Entry) → AreOnce v → IsWalk v seen looked → ((c l : ℕ) → next c l → looked c l ⊎ ((d ≡ c) × (l ≡ k))) → ((c l : ℕ) → looked c l → next c l) → next d k
-    → slot v d k ≡ Some e → is_seen seen d ≡ true → is_seen seen e.inode ≡ false → e.inode < length seen → IsWalk v (set seen e.inode true) next
-walk-mark v seen looked next d k e names w back on now there way new inside =
+walk-mark : (v : Volume) (seen : List Bool) (looked next : ℕ → ℕ → Type 0) (d k : ℕ) (e : Entry) → AreOnce v → IsWalk v seen looked → ((c l : ℕ) → next c l → looked c l ⊎ ((d ≡ c) × (l ≡ k)))
+    → slot v d k ≡ Some e → is_seen seen d ≡ true → e.inode < length seen → IsWalk v (set seen e.inode true) next
+walk-mark v seen looked next d k e names w back there way inside =
     let here : is_seen (set seen e.inode true) e.inode ≡ true = get_or-set_same seen e.inode true false inside in
     let keeps : (i : ℕ) → is_seen seen i ≡ true → is_seen (set seen e.inode true) i ≡ true = λ i t. elim (cases_eq i e.inode) [
       | inl q ↦ subst (λ x. is_seen (set seen e.inode true) x ≡ true) (sym q) here
       | inr n ↦ get_or-set_other seen e.inode i true false n ∙ t
     ] in
-    let was : (i : ℕ) → (i ≢ e.inode) → is_seen (set seen e.inode true) i ≡ true → is_seen seen i ≡ true = λ i n t. sym (get_or-set_other seen e.inode i true false n) ∙ t in
     let up = w.reached d way in
     let leads : inode_at v (e.name ∷ up.0) ≡ Some e.inode = ap (option_and_then (λ c. find e.name (slots_of (body v c)))) up.1 ∙ slot-name v d k e names there in
-    let same : (c l : ℕ) (f : Entry) → d ≡ c → l ≡ k → slot v c l ≡ Some f → e ≡ f = λ c l f x y h. (let g = sym there ∙ ap (λ (a : ℕ). slot v a k) x ∙ ap (λ (b : ℕ). slot v c b) (sym y) ∙ h in cc) in
-    -- nothing that was looked at names the new inode
-    let clash : (c l : ℕ) (f : Entry) → looked c l → slot v c l ≡ Some f → f.inode ≡ e.inode → ⊥ = λ c l f x h q. true≢false (sym (w.closed c l f x h) ∙ ap (is_seen seen) q ∙ new) in
     record {
       reached = λ i t. elim (cases_eq i e.inode) [
         | inl q ↦ (e.name ∷ up.0, leads ∙ ap (λ (x : ℕ). Some x) (sym q))
-        | inr n ↦ w.reached i (was i n t)
+        | inr n ↦ w.reached i (sym (get_or-set_other seen e.inode i true false n) ∙ t)
       ];
       root = keeps 0 w.root;
       closed = λ c l f x h. elim (back c l x) [
         | inl old ↦ keeps f.inode (w.closed c l f old h)
-        | inr q ↦ subst (λ y. is_seen (set seen e.inode true) y ≡ true) (ap (λ (y : Entry). y.inode) (same c l f q.0 q.1 h)) here
-      ];
-      named = λ i t some. elim (cases_eq i e.inode) [
-        | inl q ↦ (d, k, e, now, there, sym q)
-        | inr n ↦ let m = w.named i (was i n t) some in (m.0, m.1, m.2, on m.0 m.1 m.3, m.4, m.5)
-      ];
-      once = λ c l a m f h x y p q r dir. elim (back c l x) [
-        | inl old ↦ elim (back a m y) [
-          | inl too ↦ w.once c l a m f h old too p q r dir
-          | inr z ↦ absurd (clash c l f old p (r ∙ ap (λ (y : Entry). y.inode) (sym (same a m h z.0 z.1 q))))
-        ]
-        | inr z ↦ elim (back a m y) [
-          | inl too ↦ absurd (clash a m h too q (sym r ∙ ap (λ (y : Entry). y.inode) (sym (same c l f z.0 z.1 p))))
-          | inr u ↦ (sym z.0 ∙ u.0, z.1 ∙ sym u.1)
-        ]
+        | inr q ↦ subst (λ y. is_seen (set seen e.inode true) y ≡ true) (slot-same v d k c l e f there q h) here
       ];
     }
 
--- the slot names an inode that was seen, and is no directory
-walk-again : (v : Volume) (seen : List Bool) (looked next : ℕ → ℕ → Type 0) (d k : ℕ) (e : Entry) → IsWalk v seen looked → ((c l : ℕ) → next c l → looked c l ⊎ ((d ≡ c) × (l ≡ k))) → ((c l : ℕ) → looked c l → next c l)
-    → slot v d k ≡ Some e → is_seen seen e.inode ≡ true → thing (body v e.inode) ≢ Some ADir → IsWalk v seen next
-walk-again v seen looked next d k e w back on there was file =
-    let same : (c l : ℕ) (f : Entry) → d ≡ c → l ≡ k → slot v c l ≡ Some f → e ≡ f = λ c l f x y h. (let g = sym there ∙ ap (λ (a : ℕ). slot v a k) x ∙ ap (λ (b : ℕ). slot v c b) (sym y) ∙ h in cc) in
-    -- the slot names no directory
-    let other : (c l : ℕ) (f : Entry) → (d ≡ c) × (l ≡ k) → slot v c l ≡ Some f → thing (body v f.inode) ≢ Some ADir = λ c l f z h dir. file (ap (λ (y : Entry). thing (body v y.inode)) (same c l f z.0 z.1 h) ∙ dir) in
-    record {
-      reached = w.reached;
-      root = w.root;
-      closed = λ c l f x h. elim (back c l x) [
-        | inl old ↦ w.closed c l f old h
-        | inr q ↦ subst (λ y. is_seen seen y ≡ true) (ap (λ (y : Entry). y.inode) (same c l f q.0 q.1 h)) was
-      ];
-      named = λ i t some. let n = w.named i t some in (n.0, n.1, n.2, on n.0 n.1 n.3, n.4, n.5);
-      once = λ c l a m f h x y p q r dir. elim (back c l x) [
-        | inl old ↦ elim (back a m y) [
-          | inl too ↦ w.once c l a m f h old too p q r dir
-          | inr z ↦ absurd (other a m h z q (ap (λ (j : ℕ). thing (body v j)) (sym r) ∙ dir))
-        ]
-        | inr z ↦ absurd (other c l f z p dir)
-      ];
-    }
+-- the slot names an inode that was seen
+walk-again : (v : Volume) (seen : List Bool) (looked next : ℕ → ℕ → Type 0) (d k : ℕ) (e : Entry) → IsWalk v seen looked → ((c l : ℕ) → next c l → looked c l ⊎ ((d ≡ c) × (l ≡ k))) → slot v d k ≡ Some e → is_seen seen e.inode ≡ true → IsWalk v seen next
+walk-again v seen looked next d k e w back there was = record {
+  reached = w.reached;
+  root = w.root;
+  closed = λ c l f x h. elim (back c l x) [
+    | inl old ↦ w.closed c l f old h
+    | inr q ↦ subst (λ y. is_seen seen y ≡ true) (slot-same v d k c l e f there q h) was
+  ];
+}
 
 -- ---- the order
 
@@ -163,8 +129,6 @@ order-mark count seen order i o new low =
     ] in
     let old : (j : ℕ) → j < length order → get_or (order ++ i ∷ []) j 0 ≡ get_or order j 0 = λ j l. get_or_append_left order (i ∷ []) 0 j l in
     let last : (j : ℕ) → j ≡ length order → get_or (order ++ i ∷ []) j 0 ≡ i = λ j q. get_or_push order i 0 j (sym q) in
-    -- what is in the order was seen, so it is another
-    let other : (j : ℕ) → j < length order → get_or order j 0 ≡ i → ⊥ = λ j l q. true≢false (sym (o.marked j l) ∙ ap (is_seen seen) q ∙ new) in
     let more = sum_by-set weight seen i true false inside in
     let zero_now : weight (get_or seen i false) ≡ 0 = ap weight new in
     record {
@@ -181,16 +145,6 @@ order-mark count seen order i o new low =
       listed = λ x t. elim (cases_eq x i) [
         | inl q ↦ (length order, omega arith, last (length order) refl ∙ sym q)
         | inr d ↦ let u = o.listed x (sym (get_or-set_other seen i x true false d) ∙ t) in (u.0, (let l = u.1 in omega arith), old u.0 u.1 ∙ u.2)
-      ];
-      apart = λ j l a b q. elim (cases_lt j (length order)) [
-        | inl x ↦ elim (cases_lt l (length order)) [
-          | inl y ↦ o.apart j l x y (sym (old j x) ∙ q ∙ old l y)
-          | inr y ↦ absurd (other j x (sym (old j x) ∙ q ∙ last l (omega arith)))
-        ]
-        | inr x ↦ elim (cases_lt l (length order)) [
-          | inl y ↦ absurd (other l y (sym (old l y) ∙ sym q ∙ last j (omega arith)))
-          | inr y ↦ omega arith
-        ]
       ];
     }
 
@@ -223,7 +177,6 @@ order-start count some =
       below = λ j l. subst (λ x. x < count) (sym (first-zero j l)) some;
       marked = λ j l. subst (λ x. is_seen (set (replicate count false) 0 true) x ≡ true) (sym (first-zero j l)) here;
       listed = λ i t. (0, omega arith, sym (only-root count i t));
-      apart = λ j l a b q. omega arith;
     }
 
 start-at : (v : Volume) (count : ℕ) → 0 < count → Walked v count (set (replicate count false) 0 true) (0 ∷ []) 0 0
@@ -235,8 +188,6 @@ start-at v count some =
         reached = λ i t. ([], ap (λ (x : ℕ). Some x) (sym (only-root count i t)));
         root = o.marked 0 (omega arith);
         closed = λ d k e l. absurd (never d k l);
-        named = λ i t n. absurd (n (only-root count i t));
-        once = λ d k c l e f x. absurd (never d k x);
       };
     }
   where
@@ -256,7 +207,7 @@ walked-skip v count seen order done part d w is none = record {
   walk = walk-same v seen (IsLooked order done part) (IsLooked order done (part + 1)) w.walk (λ c k e l there. elim (looked-more order done part c k l) [
     | inl old ↦ old
     | inr q ↦ absurd (let h = sym none ∙ ap (λ (a : ℕ). slot v a part) (is ∙ q.0) ∙ ap (λ (b : ℕ). slot v c b) (sym q.1) ∙ there in cc)
-  ]) (more-looked order done part);
+  ]);
 }
 
 -- the slot names an inode that was not seen
@@ -267,30 +218,28 @@ walked-mark v count seen order done part d e names w inside is there new low =
       | inl old ↦ inl old
       | inr q ↦ inr (is ∙ q.0, q.1)
     ] in
-    let on : (c l : ℕ) → IsLooked order done part c l → IsLooked (order ++ e.inode ∷ []) done (part + 1) c l = λ c l x. looked-on order e.inode done (part + 1) c l inside (more-looked order done part c l x) in
-    let now : IsLooked (order ++ e.inode ∷ []) done (part + 1) d part = inr (pushed order e.inode done done inside (omega arith) ∙ sym is, omega arith) in
     let found : is_seen seen d ≡ true = subst (λ x. is_seen seen x ≡ true) (sym is) (w.listing.marked done inside) in
     record {
       listing = order-mark count seen order e.inode w.listing new low;
-      walk = walk-mark v seen (IsLooked order done part) (IsLooked (order ++ e.inode ∷ []) done (part + 1)) d part e names w.walk back on now there found new (let s = w.listing.size in omega arith);
+      walk = walk-mark v seen (IsLooked order done part) (IsLooked (order ++ e.inode ∷ []) done (part + 1)) d part e names w.walk back there found (let s = w.listing.size in omega arith);
     }
 
--- the slot names a file that was seen
-pub walked-again : (v : Volume) (count : ℕ) (seen : List Bool) (order : List ℕ) (done part d : ℕ) (e : Entry) → Walked v count seen order done part → d ≡ get_or order done 0 → slot v d part ≡ Some e → is_seen seen e.inode ≡ true → thing (body v e.inode) ≢ Some ADir
+-- the slot names an inode that was seen
+pub walked-again : (v : Volume) (count : ℕ) (seen : List Bool) (order : List ℕ) (done part d : ℕ) (e : Entry) → Walked v count seen order done part → d ≡ get_or order done 0 → slot v d part ≡ Some e → is_seen seen e.inode ≡ true
     → Walked v count seen order done (part + 1)
-walked-again v count seen order done part d e w is there was file = record {
+walked-again v count seen order done part d e w is there was = record {
   listing = w.listing;
   walk = walk-again v seen (IsLooked order done part) (IsLooked order done (part + 1)) d part e w.walk (λ c l x. elim (looked-more order done part c l x) [
     | inl old ↦ inl old
     | inr q ↦ inr (is ∙ q.0, q.1)
-  ]) (more-looked order done part) there was file;
+  ]) there was;
 }
 
 -- all its slots were looked at
 pub walked-next : (v : Volume) (count : ℕ) (seen : List Bool) (order : List ℕ) (done part d : ℕ) → Walked v count seen order done part → d ≡ get_or order done 0 → ((k : ℕ) (e : Entry) → slot v d k ≡ Some e → k < part) → Walked v count seen order (done + 1) 0
 walked-next v count seen order done part d w is all = record {
   listing = w.listing;
-  walk = walk-same v seen (IsLooked order done part) (IsLooked order (done + 1) 0) w.walk back on;
+  walk = walk-same v seen (IsLooked order done part) (IsLooked order (done + 1) 0) w.walk back;
 }
   where
     back : (c k : ℕ) (e : Entry) → IsLooked order (done + 1) 0 c k → slot v c k ≡ Some e → IsLooked order done part c k
@@ -300,40 +249,22 @@ walked-next v count seen order done part d w is all = record {
       | inr n ↦ inl (h.0, (let l = h.1 in omega arith), h.2)
     ]
 
-    on : (c k : ℕ) → IsLooked order done part c k → IsLooked order (done + 1) 0 c k
-    on c k (inl h) = inl (h.0, (let l = h.1 in omega arith), h.2)
-    on c k (inr h) = inl (done, (let e : done < done + 1 = omega arith in e), h.0)
-
 pub used-below : (g : Geometry) (s : Stored) (i : ℕ) → is_used (body (volume_in g s) i) ≡ true → i < inodes_of g
 used-below g s i t = elim (cases_lt i (inodes_of g)) [
   | inl low ↦ low
   | inr past ↦ absurd (true≢false (sym t ∙ ap (λ (n : Node). is_used n.body) (node-past g s i past)))
 ]
 
--- an inode that was seen is named twice
-pub walked-shared : (g : Geometry) (s : Stored) (seen : List Bool) (order : List ℕ) (done part d b : ℕ) (e : Entry) → IsTable g s → ArePointers g s → AreNamed (volume_in g s) → Walked (volume_in g s) (inodes_of g) seen order done part → done < length order → d ≡ get_or order done 0
-    → slot (volume_in g s) d part ≡ Some e → is_seen seen e.inode ≡ true → thing (body (volume_in g s) e.inode) ≡ Some ADir → b ≡ inode_block g e.inode → IsCorrupt g s Shared b
-walked-shared g s seen order done part d b e table pointers named w inside is there old dir at =
-    let n = named d part e there in
-    let m = w.walk.named e.inode old n.0 in
-    let here = slot-in g s d part e table pointers there in
-    let other = slot-in g s m.0 m.1 m.2 table pointers m.4 in
-    shared_inode d part m.0 m.1 _ _ e m.2 here other (sym m.5) dir (λ q. not-yet (subst (λ l. IsLooked order done part d l) (sym q.1) (subst (λ c. IsLooked order done part c m.1) (sym q.0) m.3))) (used-below g s e.inode n.1) at
-  where
-    not-yet : IsLooked order done part d part → ⊥
-    not-yet (inl h) = absurd (let l = h.1 in let q = w.listing.apart h.0 done (omega arith) inside (h.2 ∙ is) in omega arith)
-    not-yet (inr h) = absurd (let l = h.1 in omega arith)
-
 pub walked-few : (v : Volume) (count : ℕ) (seen : List Bool) (order : List ℕ) (done part : ℕ) → Walked v count seen order done part → length order ≤ count
 walked-few v count seen order done part w = let c = w.listing.counted in let s = w.listing.size in let l = count_by-le-length (λ (b : Bool). b) seen in omega arith
 
 -- ---- the end
 
-pub walked-whole : (v : Volume) (count : ℕ) (seen : List Bool) (order : List ℕ) (done : ℕ) → Walked v count seen order done 0 → length order ≤ done → IsWholeWalk v seen
-walked-whole v count seen order done w all = record {
+pub walked-whole : (v : Volume) (count : ℕ) (seen : List Bool) (order : List ℕ) (done : ℕ) → AreNamedOnce v → Walked v count seen order done 0 → length order ≤ done → IsWholeWalk v seen
+walked-whole v count seen order done once w all = record {
   reached = w.walk.reached;
   all = whole v seen (IsLooked order done 0) w.walk looked;
-  once = λ d k c l e f x y. w.walk.once d k c l e f (looked d k x) (looked c l y);
+  once = λ d k c l e f x y. once d k c l e f;
 }
   where
     looked : (d k : ℕ) → is_seen seen d ≡ true → IsLooked order done 0 d k
@@ -359,6 +290,31 @@ lost-found g s seen i b n table w low e some new is =
 
 pub free-unused : (g : Geometry) (s : Stored) (i : ℕ) (n : Inode) → IsTable g s → i < inodes_of g → n ≡ the_inode g s i → n.kind ≡ 0 → is_used (body (volume_in g s) i) ≡ false
 free-unused g s i n table low e free = used-kind g s i n table low e ∙ ap not (eq-eqb n.kind 0 free)
+
+-- ---- whether an inode is a directory
+
+pub dir-is : (g : Geometry) (s : Stored) (i : ℕ) → i < inodes_of g → (the_inode g s i).kind ≡ 2 → thing (body (volume_in g s) i) ≡ Some ADir
+dir-is g s i low two = ap (λ (b : Body). thing b) (body-in g s i low ∙ body-dir s (the_inode g s i) two)
+
+pub dir-low : (g : Geometry) (s : Stored) (i : ℕ) → thing (body (volume_in g s) i) ≡ Some ADir → i < inodes_of g
+dir-low g s i dir = elim (cases_lt i (inodes_of g)) [
+  | inl low ↦ low
+  | inr past ↦ absurd (let e : None ≡ Some ADir = ap (λ (n : Node). thing n.body) (sym (node-past g s i past)) ∙ dir in cc)
+]
+
+pub dir-kind : (g : Geometry) (s : Stored) (i : ℕ) → IsTable g s → thing (body (volume_in g s) i) ≡ Some ADir → (the_inode g s i).kind ≡ 2
+dir-kind g s i table dir =
+    let n = the_inode g s i in
+    let low = dir-low g s i dir in
+    let kind = (table.inodes i low).0.kind in
+    let is : thing (body_of s n) ≡ Some ADir = ap (λ (b : Body). thing b) (sym (body-in g s i low)) ∙ dir in
+    elim (cases_eq n.kind 1) [
+      | inl one ↦ absurd (let e : Some (AFile _) ≡ Some ADir = ap (λ (b : Body). thing b) (sym (body-file s n one)) ∙ is in cc)
+      | inr rest ↦ elim (cases_eq n.kind 0) [
+        | inl free ↦ absurd (let e : None ≡ Some ADir = ap (λ (b : Body). thing b) (sym (body-free s n free)) ∙ is in cc)
+        | inr some ↦ omega arith
+      ]
+    ]
 
 -- ---- the slots of the directory that is visited
 
@@ -386,49 +342,18 @@ pub visit-skip : (g : Geometry) (s : Stored) (seen now : List Bool) (order next 
 visit-skip g s seen now order next done part d n h low e two inside none p q =
     rw (p, q) (walked-skip (volume_in g s) (inodes_of g) seen order done part d h.0 h.2 (slot-entry g s d part n low e two inside ∙ none), h.1, h.2)
 
--- whether an inode is a directory
-dir-is : (g : Geometry) (s : Stored) (i : ℕ) → i < inodes_of g → (the_inode g s i).kind ≡ 2 → thing (body (volume_in g s) i) ≡ Some ADir
-dir-is g s i low two = ap (λ (b : Body). thing b) (body-in g s i low ∙ body-dir s (the_inode g s i) two)
-
-not-dir : (g : Geometry) (s : Stored) (i : ℕ) → IsTable g s → i < inodes_of g → (the_inode g s i).kind ≢ 2 → thing (body (volume_in g s) i) ≢ Some ADir
-not-dir g s i table low other dir =
-    let n = the_inode g s i in
-    let kind = (table.inodes i low).0.kind in
-    let is : thing (body_of s n) ≡ Some ADir = ap (λ (b : Body). thing b) (sym (body-in g s i low)) ∙ dir in
-    elim (cases_eq n.kind 1) [
-      | inl one ↦ let e : Some (AFile _) ≡ Some ADir = ap (λ (b : Body). thing b) (sym (body-file s n one)) ∙ is in cc
-      | inr rest ↦ let e : None ≡ Some ADir = ap (λ (b : Body). thing b) (sym (body-free s n (omega arith))) ∙ is in cc
-    ]
-
-pub visit-found : (g : Geometry) (s : Stored) (seen after now : List Bool) (order more next : List ℕ) (done part d kind : ℕ) (n : Inode) (e : Entry) (t : Bool) → IsTable g s → kind ≡ (the_inode g s e.inode).kind → AreOnce (volume_in g s) → AreNamed (volume_in g s) → Visits g s seen order done part d → d < inodes_of g → n ≡ the_inode g s d → n.kind ≡ 2
-    → part < 15 * count_of n → entry_of s n part ≡ Some e → Finds t e.inode kind seen order after more → t ≡ true → now ≡ after → next ≡ more → Visits g s now next done (part + 1) d
-visit-found g s seen after now order more next done part d kind n e false table says once named h low same two inside there f is p q = absurd (true≢false (sym is))
-visit-found g s seen after now order more next done part d kind n e true table says once named h low same two inside there (inr f) is p q =
+pub visit-found : (g : Geometry) (s : Stored) (seen after now : List Bool) (order more next : List ℕ) (done part d : ℕ) (n : Inode) (e : Entry) → AreOnce (volume_in g s) → AreNamed (volume_in g s) → Visits g s seen order done part d → d < inodes_of g → n ≡ the_inode g s d → n.kind ≡ 2
+    → part < 15 * count_of n → entry_of s n part ≡ Some e → Finds e.inode seen order after more → now ≡ after → next ≡ more → Visits g s now next done (part + 1) d
+visit-found g s seen after now order more next done part d n e once named h low same two inside there (inr f) p q =
     let at : slot (volume_in g s) d part ≡ Some e = slot-entry g s d part n low same two inside ∙ there in
-    let file = not-dir g s e.inode table (used-below g s e.inode (named d part e at).1) (λ z. f.1 (says ∙ z)) in
-    rw (p ∙ f.2, q ∙ f.3) (walked-again (volume_in g s) (inodes_of g) seen order done part d e h.0 h.2 at f.0 file, h.1, h.2)
-visit-found g s seen after now order more next done part d kind n e true table says once named h low same two inside there (inl f) is p q =
+    rw (p ∙ f.1, q ∙ f.2) (walked-again (volume_in g s) (inodes_of g) seen order done part d e h.0 h.2 at f.0, h.1, h.2)
+visit-found g s seen after now order more next done part d n e once named h low same two inside there (inl f) p q =
     let at : slot (volume_in g s) d part ≡ Some e = slot-entry g s d part n low same two inside ∙ there in
     let w = walked-mark (volume_in g s) (inodes_of g) seen order done part d e once h.0 h.1 h.2 at f.0 (used-below g s e.inode (named d part e at).1) in
     let grown = length_push order e.inode in
     let l = h.1 in
     rw (p ∙ f.1, q ∙ f.2) (w, (let r : done < length (order ++ e.inode ∷ []) = omega arith in r), h.2 ∙ sym (pushed order e.inode done done h.1 (omega arith)))
 
-pub visit-shared : (g : Geometry) (s : Stored) (seen after : List Bool) (order more : List ℕ) (done part d b kind : ℕ) (n : Inode) (e : Entry) (t : Bool) → IsTable g s → kind ≡ (the_inode g s e.inode).kind → ArePointers g s → AreNamed (volume_in g s) → Visits g s seen order done part d → d < inodes_of g → n ≡ the_inode g s d → n.kind ≡ 2 → part < 15 * count_of n → entry_of s n part ≡ Some e
-    → Finds t e.inode kind seen order after more → t ≡ false → b ≡ inode_block g e.inode → IsCorrupt g s Shared b
-visit-shared g s seen after order more done part d b kind n e true table says pointers named h low same two inside there f is at = absurd (true≢false is)
-visit-shared g s seen after order more done part d b kind n e false table says pointers named h low same two inside there f is at =
-    let there_is : slot (volume_in g s) d part ≡ Some e = slot-entry g s d part n low same two inside ∙ there in
-    let dir = dir-is g s e.inode (used-below g s e.inode (named d part e there_is).1) (sym says ∙ f.1) in
-    walked-shared g s seen order done part d b e table pointers named h.0 h.1 h.2 there_is f.0 dir at
-
 -- a slot names an inode of the table
 pub visit-inside : (g : Geometry) (s : Stored) (seen : List Bool) (order : List ℕ) (done part d : ℕ) (n : Inode) (e : Entry) → AreNamed (volume_in g s) → Visits g s seen order done part d → d < inodes_of g → n ≡ the_inode g s d → n.kind ≡ 2 → part < 15 * count_of n → entry_of s n part ≡ Some e → e.inode < length seen
 visit-inside g s seen order done part d n e named h low same two inside there = let l = used-below g s e.inode (named d part e (slot-entry g s d part n low same two inside ∙ there)).1 in let z = h.0.listing.size in omega arith
-
-pub visit-known : (g : Geometry) (s : Stored) (seen : List Bool) (order : List ℕ) (done part d : ℕ) (n : Inode) (e : Entry) (xs : List Inode) → AreNamed (volume_in g s) → Visits g s seen order done part d → d < inodes_of g → n ≡ the_inode g s d → n.kind ≡ 2 → part < 15 * count_of n → entry_of s n part ≡ Some e → xs ≡ inodes_in g s → e.inode < length xs
-visit-known g s seen order done part d n e xs named h low same two inside there is =
-    let l = used-below g s e.inode (named d part e (slot-entry g s d part n low same two inside ∙ there)).1 in
-    let k = ap length is in
-    let m = length-inodes g s in
-    omega arith

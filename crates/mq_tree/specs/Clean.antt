@@ -68,10 +68,15 @@ AreNamed v = (d k : ℕ) (e : Entry) → slot v d k ≡ Some e → (e.inode ≢ 
 abbrev pub AreOnce : Volume → Type 0
 AreOnce v = (d k l : ℕ) (e f : Entry) → slot v d k ≡ Some e → slot v d l ≡ Some f → e.name ≡ f.name → k ≡ l
 
+-- one slot alone names a directory
+abbrev pub AreNamedOnce : Volume → Type 0
+AreNamedOnce v =
+    (d k c l : ℕ) (e f : Entry) → slot v d k ≡ Some e → slot v c l ≡ Some f → e.inode ≡ f.inode
+    → thing (body v e.inode) ≡ Some ADir → (d ≡ c) × (k ≡ l)
+
 -- a path leads to each used inode, and one slot alone names a directory
 pub record AreReached (v : Volume) : Type 0 where
-  pub once : (d k c l : ℕ) (e f : Entry) → slot v d k ≡ Some e → slot v c l ≡ Some f → e.inode ≡ f.inode
-      → thing (body v e.inode) ≡ Some ADir → (d ≡ c) × (k ≡ l)
+  pub once : AreNamedOnce v
   pub reached : (i : ℕ) → is_used (body v i) ≡ true → (way : Way) × (inode_at v way ≡ Some i)
 
 -- a file's links are as many as the slots that name it

@@ -1,5 +1,5 @@
 -- The causes for which home blocks have no tree, each with a block at which it holds.
-use Rattle.std.specs.Prelude.{◌≡◌, ◌≢◌, ℕ, ◌+◌, ◌*◌, ◌/◌, ◌<◌, ◌≤◌, true, false, slice_index, Some}
+use Rattle.std.specs.Prelude.{◌≡◌, ◌≢◌, ◌⊎◌, ℕ, ◌+◌, ◌*◌, ◌/◌, ◌<◌, ◌≤◌, true, false, slice_index, Some}
 use Rattle.mq_blocks.specs.Blocks.{block_at}
 use Rattle.mq_blocks.specs.Geometry.{meta_of, queues_of, zone_size}
 use Rattle.mq_blocks.specs.declared.geometry.Geometry.{Geometry}
@@ -46,23 +46,29 @@ pub record IsUsedFor (g : Geometry) (s : Stored) (u : Use) (b : ℕ) : Type 0 wh
 
 -- ---- the causes
 
--- A codec refuses, or a byte or a bit has to be 0 and is not.
-pub data BadLayout (g : Geometry) (s : Stored) (b : ℕ) : Type 0 where
-  superblock : (e : LayoutRefusal) → b ≡ 0 → wrong_super g (block_at s b) ≡ Some e → BadLayout g s b
+-- In the superblock, a bitmap or the inode table a codec refuses, or a byte or a bit has to be 0 and is not.
+pub data BadTable (g : Geometry) (s : Stored) (b : ℕ) : Type 0 where
+  superblock : (e : LayoutRefusal) → b ≡ 0 → wrong_super g (block_at s b) ≡ Some e → BadTable g s b
   zone_bit : (zone k : ℕ) → zone < queues_of g → b ≡ zone_bitmap zone → zone_size g ≤ k → k < 32768
-      → bit_of (block_at s b) k ≡ 1 → BadLayout g s b
+      → bit_of (block_at s b) k ≡ 1 → BadTable g s b
   inode_bit : (k : ℕ) → b ≡ inode_bitmap g → inodes_of g ≤ k → k < 32768 → bit_of (block_at s b) k ≡ 1
-      → BadLayout g s b
+      → BadTable g s b
   table_inode : (i : ℕ) (e : LayoutRefusal) → i < inodes_of g → b ≡ inode_block g i
-      → wrong_inode (block_at s b) (inode_place i) ≡ Some e → BadLayout g s b
+      → wrong_inode (block_at s b) (inode_place i) ≡ Some e → BadTable g s b
   table_rest : (k : ℕ) → table_first g + 1024 ≤ b → b < meta_of g → slice_index (block_at s b) k ≢ 0
-      → BadLayout g s b
+      → BadTable g s b
+
+-- in a block of a directory
+pub data BadDir (g : Geometry) (s : Stored) (b : ℕ) : Type 0 where
   in_slot : (i place at : ℕ) (e : LayoutRefusal) → i < inodes_of g → (the_inode g s i).kind ≡ 2
       → place < count_of (the_inode g s i) → IsPlace g s i place b → at < 15
-      → wrong_slot (block_at s b) at ≡ Some e → BadLayout g s b
+      → wrong_slot (block_at s b) at ≡ Some e → BadDir g s b
   behind_slots : (i place k : ℕ) → i < inodes_of g → (the_inode g s i).kind ≡ 2
       → place < count_of (the_inode g s i) → IsPlace g s i place b → 4080 ≤ k → k < 4096
-      → slice_index (block_at s b) k ≢ 0 → BadLayout g s b
+      → slice_index (block_at s b) k ≢ 0 → BadDir g s b
+
+abbrev pub BadLayout : Geometry → Stored → ℕ → Type 0
+BadLayout g s b = BadTable g s b ⊎ BadDir g s b
 
 -- the block that has the pointer to this place
 pub data BadPointer (g : Geometry) (s : Stored) (b : ℕ) : Type 0 where
@@ -81,12 +87,20 @@ pub data BadPointer (g : Geometry) (s : Stored) (b : ℕ) : Type 0 where
       → 12 < count_of (the_inode g s i) → count_of (the_inode g s i) ≤ k → k < 1036
       → pointer_to s (the_inode g s i) k ≢ 0 → BadPointer g s b
 
-pub data BadKind (g : Geometry) (s : Stored) (b : ℕ) : Type 0 where
-  not_root : b ≡ inode_block g 0 → (the_inode g s 0).kind ≢ 2 → BadKind g s b
-  names_root : (d k : ℕ) (e : Entry) → IsSlotIn g s d k e b → e.inode ≡ 0 → BadKind g s b
+-- inode 0 is no directory, in its block
+pub record BadRoot (g : Geometry) (s : Stored) (b : ℕ) : Type 0 where
+  pub at : b ≡ inode_block g 0
+  pub not_dir : (the_inode g s 0).kind ≢ 2
+
+-- a slot names what it may not
+pub data BadName (g : Geometry) (s : Stored) (b : ℕ) : Type 0 where
+  names_root : (d k : ℕ) (e : Entry) → IsSlotIn g s d k e b → e.inode ≡ 0 → BadName g s b
   -- free, or not below the number of inodes
   names_free : (d k : ℕ) (e : Entry) → IsSlotIn g s d k e b
-      → is_used (body (volume_in g s) e.inode) ≡ false → BadKind g s b
+      → is_used (body (volume_in g s) e.inode) ≡ false → BadName g s b
+
+abbrev pub BadKind : Geometry → Stored → ℕ → Type 0
+BadKind g s b = BadRoot g s b ⊎ BadName g s b
 
 pub record IsTwin (g : Geometry) (s : Stored) (b : ℕ) : Type 0 where
   pub d : ℕ
@@ -100,13 +114,34 @@ pub record IsTwin (g : Geometry) (s : Stored) (b : ℕ) : Type 0 where
   pub same : e.name ≡ f.name
   pub apart : k ≢ l
 
-pub data IsShared (g : Geometry) (s : Stored) (b : ℕ) : Type 0 where
-  shared_block : (u w : Use) → IsUsedFor g s u b → IsUsedFor g s w b → u ≢ w → IsShared g s b
-  -- two slots name a directory, whose inode is in this block
-  shared_inode : (d k c l x y : ℕ) (e f : Entry) → IsSlotIn g s d k e x → IsSlotIn g s c l f y
-      → e.inode ≡ f.inode → thing (body (volume_in g s) e.inode) ≡ Some ADir
-      → ((d ≡ c) × (k ≡ l) → ⊥) → e.inode < inodes_of g → b ≡ inode_block g e.inode
-      → IsShared g s b
+-- the block is used twice
+pub record IsSharedBlock (g : Geometry) (s : Stored) (b : ℕ) : Type 0 where
+  pub u : Use
+  pub w : Use
+  pub first : IsUsedFor g s u b
+  pub second : IsUsedFor g s w b
+  pub apart : u ≢ w
+
+-- two slots name a directory, whose inode is in this block
+pub record IsSharedDir (g : Geometry) (s : Stored) (b : ℕ) : Type 0 where
+  pub d : ℕ
+  pub k : ℕ
+  pub c : ℕ
+  pub l : ℕ
+  pub x : ℕ
+  pub y : ℕ
+  pub e : Entry
+  pub f : Entry
+  pub first : IsSlotIn g s d k e x
+  pub second : IsSlotIn g s c l f y
+  pub same : e.inode ≡ f.inode
+  pub dir : thing (body (volume_in g s) e.inode) ≡ Some ADir
+  pub apart : (d ≡ c) × (k ≡ l) → ⊥
+  pub low : e.inode < inodes_of g
+  pub at : b ≡ inode_block g e.inode
+
+abbrev pub IsShared : Geometry → Stored → ℕ → Type 0
+IsShared g s b = IsSharedBlock g s b ⊎ IsSharedDir g s b
 
 -- the links of a file of this block are not as many as the slots that name it
 pub record IsMiscounted (g : Geometry) (s : Stored) (b : ℕ) : Type 0 where

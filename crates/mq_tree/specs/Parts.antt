@@ -1,11 +1,12 @@
 -- Phases of a mount, inode by inode: what holds of its blocks, and a block at which it does not.
-use Rattle.std.specs.Prelude.{◌≡◌, ◌≢◌, ℕ, ◌*◌, ◌/◌, ◌<◌, ◌≤◌, ◌⊎◌, List, length, slice_index, slice_index_or, Some}
+use Rattle.std.specs.Prelude.{◌≡◌, ◌≢◌, ℕ, ◌*◌, ◌/◌, ◌<◌, ◌≤◌, ◌⊎◌, Bool, true, false, List, length, slice_index, slice_index_or, Some}
 use Rattle.mq_blocks.specs.Blocks.{block_at}
+use Rattle.mq_blocks.specs.declared.geometry.Geometry.{Geometry}
 use Rattle.mq_layout.specs.Empty.{free_inode}
 use Rattle.mq_layout.specs.Slots.{Entry, wrong_slot}
 use Rattle.mq_layout.specs.declared.inode.Inode.{Inode}
 use Rattle.mq_layout.specs.declared.refusal.LayoutRefusal.{LayoutRefusal}
-use Rattle.mq_tree.specs.Clean.{IsDirBlock}
+use Rattle.mq_tree.specs.Clean.{IsDirBlock, IsInZone}
 use Rattle.mq_tree.specs.Decoded.{Stored, byte_of, count_of, part, pointer_to, slot_of}
 
 -- the bytes past the end of a file are zeros
@@ -30,12 +31,27 @@ IsBadBlock block =
 abbrev pub AreDirBlocks : Stored → Inode → Type 0
 AreDirBlocks s n = n.kind ≡ 2 → (place : ℕ) → place < count_of n → IsDirBlock (part s n place)
 
-pub record HasBadBlock (s : Stored) (n : Inode) (b : ℕ) : Type 0 where
+-- The block at this place of an inode lies in a zone, and so does the block of pointers in which its pointer
+-- stands.
+pub record LeadsTo (g : Geometry) (s : Stored) (n : Inode) (place b : ℕ) : Type 0 where
+  pub is : b ≡ pointer_to s n place
+  pub inside : IsInZone g b
+  pub through : 12 ≤ place → IsInZone g n.indirect
+
+-- such a block of the first `count` places of a directory
+pub record HasDirBlock (g : Geometry) (s : Stored) (n : Inode) (count b : ℕ) : Type 0 where
   pub place : ℕ
   pub dir : n.kind ≡ 2
-  pub inside : place < count_of n
-  pub is : b ≡ pointer_to s n place
-  pub bad : IsBadBlock (block_at s b)
+  pub low : place < count
+  pub there : LeadsTo g s n place b
+
+-- just those were marked besides
+pub record AddsMarks (g : Geometry) (s : Stored) (n : Inode) (count : ℕ) (old new : List Bool) : Type 0 where
+  pub size : length new ≡ length old
+  pub only : (b : ℕ) → slice_index_or new b false ≡ true
+      → (slice_index_or old b false ≡ true) ⊎ HasDirBlock g s n count b
+  pub kept : (b : ℕ) → slice_index_or old b false ≡ true → slice_index_or new b false ≡ true
+  pub all : (b : ℕ) → HasDirBlock g s n count b → slice_index_or new b false ≡ true
 
 -- the inode is used, and is not the root
 pub record IsNamedBy (inodes : List Inode) (i : ℕ) : Type 0 where
@@ -59,9 +75,7 @@ pub record NamesOther (inodes : List Inode) (block : List ℕ) : Type 0 where
   pub there : slot_of block at ≡ Some e
   pub wrong : IsNamedBy inodes e.inode → ⊥
 
-abbrev pub AreNamedIn : Stored → List Inode → Inode → Type 0
-AreNamedIn s inodes n = n.kind ≡ 2 → (place : ℕ) → place < count_of n → NameAll inodes (part s n place)
-
+-- a block of a directory has such a slot
 pub record HasBadName (s : Stored) (inodes : List Inode) (n : Inode) (b : ℕ) : Type 0 where
   pub place : ℕ
   pub dir : n.kind ≡ 2

@@ -1,5 +1,5 @@
 -- A walk over the directories of a volume, from the root on.
-use Rattle.std.specs.Prelude.{◌≡◌, ◌≢◌, ℕ, ◌<◌, ◌⊎◌, Bool, true, false, List, [], ◌∷◌, ◌++◌, length, replicate, slice_index, slice_index_or, slice_set, Some, if◌then◌else◌}
+use Rattle.std.specs.Prelude.{◌≡◌, ℕ, ◌<◌, ◌⊎◌, Bool, true, false, List, [], ◌∷◌, ◌++◌, length, replicate, slice_index, slice_index_or, slice_set, Some, if◌then◌else◌}
 use Rattle.std.specs.List.{sum_by}
 use Rattle.mq_layout.specs.Slots.{Entry}
 use Rattle.mq_tree.specs.Volume.{ADir, Volume, Way, body, inode_at, slot, thing}
@@ -26,20 +26,12 @@ pub record IsOrder (count : ℕ) (seen : List Bool) (order : List ℕ) : Type 0 
   pub below : (j : ℕ) → j < length order → slice_index order j < count
   pub marked : (j : ℕ) → j < length order → is_seen seen (slice_index order j) ≡ true
   pub listed : (i : ℕ) → is_seen seen i ≡ true → (j : ℕ) × (j < length order) × (slice_index order j ≡ i)
-  pub apart : (j l : ℕ) → j < length order → l < length order
-      → slice_index order j ≡ slice_index order l → j ≡ l
 
--- Paths lead to what was seen. What the slots that were looked at name was seen, and each such inode but
--- the root stands in one of them, a directory in one alone.
+-- Paths lead to what was seen, and what the slots that were looked at name was seen.
 pub record IsWalk (v : Volume) (seen : List Bool) (looked : ℕ → ℕ → Type 0) : Type 0 where
   pub reached : (i : ℕ) → is_seen seen i ≡ true → (way : Way) × (inode_at v way ≡ Some i)
   pub root : is_seen seen 0 ≡ true
   pub closed : (d k : ℕ) (e : Entry) → looked d k → slot v d k ≡ Some e → is_seen seen e.inode ≡ true
-  pub named : (i : ℕ) → is_seen seen i ≡ true → i ≢ 0
-      → (d : ℕ) × (k : ℕ) × (e : Entry) × looked d k × (slot v d k ≡ Some e) × (e.inode ≡ i)
-  pub once : (d k c l : ℕ) (e f : Entry) → looked d k → looked c l → slot v d k ≡ Some e
-      → slot v c l ≡ Some f → e.inode ≡ f.inode → thing (body v e.inode) ≡ Some ADir
-      → (d ≡ c) × (k ≡ l)
 
 -- so far as all slots of the first inodes of the order, and the first slots of the next
 pub record Walked (v : Volume) (count : ℕ) (seen : List Bool) (order : List ℕ)
@@ -61,11 +53,9 @@ pub record Starts (count : ℕ) (seen : List Bool) (order : List ℕ) : Type 0 w
   pub first : order ≡ 0 ∷ []
   pub marks : seen ≡ slice_set (replicate count false) 0 true
 
--- an inode is found, or was before, and is no directory
-abbrev pub Finds : (is_fine : Bool) → (inode kind : ℕ)
-    → (seen : List Bool) (order : List ℕ) (after : List Bool) (next : List ℕ) → Type 0
-Finds true i kind seen order after next =
+-- an inode is found, or was before
+abbrev pub Finds : (inode : ℕ) → (seen : List Bool) (order : List ℕ) (after : List Bool) (next : List ℕ)
+    → Type 0
+Finds i seen order after next =
     ((is_seen seen i ≡ false) × (after ≡ slice_set seen i true) × (next ≡ order ++ i ∷ []))
-    ⊎ ((is_seen seen i ≡ true) × (kind ≢ 2) × (after ≡ seen) × (next ≡ order))
-Finds false i kind seen order after next =
-    (is_seen seen i ≡ true) × (kind ≡ 2) × (after ≡ seen) × (next ≡ order)
+    ⊎ ((is_seen seen i ≡ true) × (after ≡ seen) × (next ≡ order))

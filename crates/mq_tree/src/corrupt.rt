@@ -33,6 +33,29 @@ pub enum MountRefusal {
     OutOfMemory,
 }
 
+/// Why a mount is refused, with the phase that found it, from 1 to 6.
+#[derive(Clone, Copy, Debug, PartialEq, Eq)]
+pub enum PhaseRefusal {
+    /// No earlier phase found anything. This is the least block at which this one did, and its first cause there.
+    Found {
+        phase: u32,
+        cause: CorruptCause,
+        block: BlockNo,
+    },
+    OutOfMemory,
+}
+
+impl From<OutOfMemory> for PhaseRefusal {
+    ghost use Rattle.std.specs.Prelude.{◌≡◌};
+    ghost use Rattle.mq_tree.specs.declared.corrupt.PhaseRefusal.TheVariants as refusal;
+
+    ghost from_gives = { λ _ e. e ≡ refusal.OutOfMemory };
+
+    fn from(_: OutOfMemory) -> Self {
+        PhaseRefusal::OutOfMemory
+    }
+}
+
 impl From<OutOfMemory> for MountRefusal {
     ghost use Rattle.std.specs.Prelude.{◌≡◌};
     ghost use Rattle.mq_tree.specs.declared.corrupt.MountRefusal.TheVariants as refusal;

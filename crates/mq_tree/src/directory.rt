@@ -1,7 +1,7 @@
 // The names of a directory, as a map.
-ghost use Rattle.std.specs.Prelude.{◌≡◌, IfOk, [], length, map};
+ghost use Rattle.std.specs.Prelude.{◌≡◌, ◌≢◌, IfOk, [], length, map};
 ghost use Rattle.std.specs.Bool.{MatchBool};
-ghost use Rattle.mq_tree.specs.Directories.{Adds, Has};
+ghost use Rattle.mq_tree.specs.Directories.{Adds, Has, Leads};
 ghost use Rattle.mq_tree.specs.ListText.{entries_in, entry_of_link};
 ghost use Rattle.mq_tree.specs.Volume.{find};
 
@@ -38,8 +38,9 @@ impl Directory {
 
     /// Adds a name, and returns whether it was not there before.
     pub fn add(&mut self, alloc: Global, name: &[u8], inode: u32) -> Result<bool, OutOfMemory>
-        ensures { IfOk result (λ is_new. MatchBool is_new (Adds self.old self.new name.now inode)
+        ensures is_new { IfOk result (λ is_new. MatchBool is_new (Adds self.old self.new name.now inode)
             (Has self.old name.now)) }
+        ensures leads { IfOk result (λ _. Leads self.old self.new name.now inode) }
     {
         let key = Vec::from_slice(alloc, name)?;
         let before = self.links.insert(key, inode)?;
@@ -51,6 +52,13 @@ impl Directory {
         ensures { result ≡ find name.now self.now }
     {
         self.links.get(name).copied()
+    }
+
+    /// Whether it has no names.
+    pub fn is_empty(&self) -> bool
+        ensures { MatchBool result (self.now ≡ []) (self.now ≢ []) }
+    {
+        self.links.is_empty()
     }
 
     /// The number of names.

@@ -1,15 +1,16 @@
 // A phase of a mount: the bytes past the end of a file are zeros.
-ghost use Rattle.std.specs.Prelude.{◌≡◌, ◌<◌, ℕ, IfErr, IfOk, MatchOption};
+ghost use Rattle.std.specs.Prelude.{◌≡◌, MatchOption};
 ghost use Rattle.mq_blocks.specs.Blocks.{zeros};
 ghost use Rattle.mq_layout.specs.Inodes.{IsInode};
 ghost use Rattle.mq_tree.specs.Clean.{AreEnded, ArePointers, IsTable};
-ghost use Rattle.mq_tree.specs.Corrupt.{Refuses};
+ghost use Rattle.mq_tree.specs.Corrupt.{HasTail};
 ghost use Rattle.mq_tree.specs.Decoded.{inodes_in};
+ghost use Rattle.mq_tree.specs.Least.{IsLeast};
 ghost use Rattle.mq_tree.specs.Parts.{HasEndAt, IsEnded};
 
-use crate::corrupt::{CorruptCause, MountRefusal};
+use crate::findings::lesser;
 use crate::pointers::pointer_at;
-use crate::stored::{corrupt, stored_block};
+use crate::stored::stored_block;
 use mq_blocks::{Block, Geometry};
 use mq_layout::Inode;
 
@@ -36,23 +37,22 @@ fn bad_end(blocks: &[Option<Block>], zero: &Block, inode: &Inode) -> Option<u32>
     None
 }
 
-pub fn check_ends(
+/// The least block of a file in which a byte past the end is not 0.
+pub fn bad_tail(
     geometry: Geometry,
     blocks: &[Option<Block>],
     zero: &Block,
     inodes: &[Inode],
-) -> Result<(), MountRefusal>
+) -> Option<u32>
     requires zero { zero.now ≡ zeros }
     requires inodes { inodes.now ≡ inodes_in geometry blocks.now }
     requires table { IsTable geometry blocks.now }
     requires pointers { ArePointers geometry blocks.now }
-    ensures ok { IfOk result (λ _. AreEnded geometry blocks.now) }
-    ensures cause { IfErr result (Refuses geometry blocks.now) }
+    ensures { MatchOption result (AreEnded geometry blocks.now) (IsLeast (HasTail geometry blocks.now)) }
 {
-    for (i, inode) in inodes.iter().enumerate() {
-        if let Some(b) = bad_end(blocks, zero, inode) {
-            return Err(corrupt(CorruptCause::Tail, b));
-        }
+    let mut best = None;
+    for inode in inodes {
+        best = lesser(best, bad_end(blocks, zero, inode));
     }
-    Ok(())
+    best
 }

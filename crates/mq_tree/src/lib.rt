@@ -11,6 +11,7 @@ mod directory;
 mod dirs;
 mod duplicate_names;
 mod file_tails;
+mod findings;
 mod keeps;
 mod laws;
 mod links;
@@ -18,7 +19,9 @@ mod listing;
 mod mounts;
 mod names;
 mod path;
+mod phases;
 mod pointers;
+mod reached;
 mod request;
 mod slots;
 mod stored;
@@ -26,7 +29,7 @@ mod table;
 mod tree;
 mod walk;
 
-pub use corrupt::{CorruptCause, MountRefusal};
+pub use corrupt::{CorruptCause, MountRefusal, PhaseRefusal};
 pub use counts::TreeCounts;
 pub use keeps::{
     a_group_keeps_a_volume_sound, files_are_linked, files_are_rewritten, new_things_are_added,
@@ -34,7 +37,7 @@ pub use keeps::{
     things_are_removed, things_are_renamed,
 };
 pub use laws::{a_listing_has_each_path, alike_trees, clean_blocks, empty_tree, one_tree};
-pub use mounts::mount;
+pub use mounts::{mount, mount_by_phases};
 pub use path::{Bytes, Name, Names, Path};
 pub use request::{Fault, Reply, Request, changes};
 pub use tree::Tree;

@@ -1,21 +1,20 @@
-// A phase of a mount: a file's links are as many as the slots that name it.
-ghost use Rattle.std.specs.Prelude.{◌≡◌, ◌≢◌, ◌+◌, ◌*◌, ◌<◌, ◌^◌, ℕ, IfErr, IfOk, OnOk, Some, length, slice_index};
+// How often slots name an inode: a directory once, and a file as often as its links say.
+ghost use Rattle.std.specs.Prelude.{◌≡◌, ◌≢◌, ◌+◌, ◌*◌, ◌<◌, ◌^◌, ℕ, IfOk, MatchOption, Some, length, slice_index};
 ghost use Rattle.std.specs.Bool.{MatchBool};
 ghost use Rattle.mq_blocks.specs.Blocks.{zeros};
 ghost use Rattle.mq_layout.specs.Inodes.{IsInode};
 ghost use Rattle.mq_layout.specs.Places.{inodes_of};
 ghost use Rattle.mq_layout.specs.Slots.{Entry};
-ghost use Rattle.mq_tree.specs.Clean.{AreDirs, AreLinked, AreNamed, ArePointers, IsTable};
-ghost use Rattle.mq_tree.specs.Corrupt.{Refuses};
+ghost use Rattle.mq_tree.specs.Clean.{AreDirs, AreLinked, AreNamed, AreNamedOnce, ArePointers, IsTable};
+ghost use Rattle.mq_tree.specs.Corrupt.{IsMiscounted, IsSharedDir};
 ghost use Rattle.mq_tree.specs.Decoded.{count_of, entry_of, inodes_in, table_of, volume_in};
+ghost use Rattle.mq_tree.specs.Least.{IsLeast};
 ghost use Rattle.mq_tree.specs.Links.{links_to, names_among};
 ghost use Rattle.mq_tree.specs.Parts.{AreDirBlocks};
 
-use crate::corrupt::{CorruptCause, MountRefusal};
 use crate::file_tails::FILE;
 use crate::pointers::block_count;
 use crate::slots::slot_at;
-use crate::stored::corrupt;
 use crate::table::DIRECTORY;
 use mq_blocks::{Block, Geometry, OutOfMemory};
 use mq_layout::{Inode, SLOTS_PER_BLOCK, inode_block};
@@ -85,26 +84,51 @@ fn has_links(inode: &Inode, count: u32) -> bool
     u32::from(inode.links) == count
 }
 
-/// Checks that a file's links are as many as the slots that name it.
-pub fn check_links(
+/// The least block that has the inode of a directory which two slots name.
+pub fn shared_directory(
     geometry: Geometry,
     blocks: &[Option<Block>],
     inodes: &[Inode],
     counts: &[u32],
-) -> Result<(), MountRefusal>
+) -> Option<u32>
+    requires inodes { inodes.now ≡ inodes_in geometry blocks.now }
+    requires table { IsTable geometry blocks.now }
+    requires pointers { ArePointers geometry blocks.now }
+    requires size { length counts.now ≡ inodes_of geometry }
+    requires counted { (i : ℕ)
+        → i < inodes_of geometry
+        → slice_index counts.now i ≡ links_to (volume_in geometry blocks.now) i }
+    ensures { MatchOption result (AreNamedOnce (volume_in geometry blocks.now))
+        (IsLeast (IsSharedDir geometry blocks.now)) }
+{
+    for (i, inode) in inodes.iter().enumerate() {
+        if inode.kind == DIRECTORY && counts[i] > 1 {
+            return Some(inode_block(geometry, i as u32).0);
+        }
+    }
+    None
+}
+
+/// The least block that has a file whose links are not as many as the slots that name it.
+pub fn bad_count(
+    geometry: Geometry,
+    blocks: &[Option<Block>],
+    inodes: &[Inode],
+    counts: &[u32],
+) -> Option<u32>
     requires inodes { inodes.now ≡ inodes_in geometry blocks.now }
     requires table { IsTable geometry blocks.now }
     requires size { length counts.now ≡ inodes_of geometry }
     requires counted { (i : ℕ)
         → i < inodes_of geometry
         → slice_index counts.now i ≡ links_to (volume_in geometry blocks.now) i }
-    ensures ok { OnOk result (AreLinked geometry blocks.now) }
-    ensures cause { IfErr result (Refuses geometry blocks.now) }
+    ensures { MatchOption result (AreLinked geometry blocks.now)
+        (IsLeast (IsMiscounted geometry blocks.now)) }
 {
     for (i, inode) in inodes.iter().enumerate() {
         if !has_links(inode, counts[i]) {
-            return Err(corrupt(CorruptCause::Count, inode_block(geometry, i as u32).0));
+            return Some(inode_block(geometry, i as u32).0);
         }
     }
-    Ok(())
+    None
 }

@@ -1,17 +1,18 @@
 // A phase of a mount: slots name used inodes, and not the root.
-ghost use Rattle.std.specs.Prelude.{◌≡◌, ◌<◌, ℕ, IfErr, IfOk, MatchOption, Some};
+ghost use Rattle.std.specs.Prelude.{◌≡◌, ◌<◌, MatchOption, Some};
 ghost use Rattle.std.specs.Bool.{MatchBool};
 ghost use Rattle.mq_blocks.specs.Blocks.{zeros};
 ghost use Rattle.mq_layout.specs.Inodes.{IsInode};
 ghost use Rattle.mq_layout.specs.Slots.{Entry};
 ghost use Rattle.mq_tree.specs.Clean.{AreDirs, AreNamed, ArePointers, IsDirBlock, IsTable};
-ghost use Rattle.mq_tree.specs.Corrupt.{Refuses};
+ghost use Rattle.mq_tree.specs.Corrupt.{BadName};
 ghost use Rattle.mq_tree.specs.Decoded.{inodes_in, slot_of, volume_in};
-ghost use Rattle.mq_tree.specs.Parts.{AreDirBlocks, AreNamedIn, HasBadName, IsNamedBy, NameAll, NamesOther, NamesRight};
+ghost use Rattle.mq_tree.specs.Least.{IsLeast, IsLeastOf};
+ghost use Rattle.mq_tree.specs.Parts.{AreDirBlocks, HasBadName, IsNamedBy, NameAll, NamesOther, NamesRight};
 
-use crate::corrupt::{CorruptCause, MountRefusal};
+use crate::findings::lesser;
 use crate::pointers::{block_count, pointer_at};
-use crate::stored::{corrupt, stored_block};
+use crate::stored::stored_block;
 use crate::table::DIRECTORY;
 use mq_blocks::{Block, Geometry};
 use mq_layout::{Inode, SLOTS_PER_BLOCK, read_slot};
@@ -54,44 +55,49 @@ fn name_all(inodes: &[Inode], block: &Block) -> bool
     true
 }
 
-/// The first block of a directory with a slot that names no such inode.
-fn bad_name(blocks: &[Option<Block>], zero: &Block, inodes: &[Inode], inode: &Inode) -> Option<u32>
+/// The least block of a directory with a slot that names no such inode.
+fn bad_name_in(
+    blocks: &[Option<Block>],
+    zero: &Block,
+    inodes: &[Inode],
+    inode: &Inode,
+) -> Option<u32>
     requires zero { zero.now ≡ zeros }
     requires form { IsInode inode.now }
     requires dir { AreDirBlocks blocks.now inode.now }
-    ensures { MatchOption result (AreNamedIn blocks.now inodes.now inode.now)
-        (HasBadName blocks.now inodes.now inode.now) }
+    ensures { IsLeastOf (HasBadName blocks.now inodes.now inode.now) result }
 {
     if inode.kind != DIRECTORY {
         return None;
     }
+    let mut least = None;
     for place in 0..block_count(inode) {
         let b = pointer_at(blocks, zero, inode, place);
         if !name_all(inodes, stored_block(blocks, zero, b)) {
-            return Some(b);
+            least = lesser(least, Some(b));
         }
     }
-    None
+    least
 }
 
-pub fn check_names(
+/// The least block of a directory with a slot that names inode 0, a free inode or none.
+pub fn bad_name(
     geometry: Geometry,
     blocks: &[Option<Block>],
     zero: &Block,
     inodes: &[Inode],
-) -> Result<(), MountRefusal>
+) -> Option<u32>
     requires zero { zero.now ≡ zeros }
     requires inodes { inodes.now ≡ inodes_in geometry blocks.now }
     requires table { IsTable geometry blocks.now }
     requires dirs { AreDirs geometry blocks.now }
     requires pointers { ArePointers geometry blocks.now }
-    ensures ok { IfOk result (λ _. AreNamed (volume_in geometry blocks.now)) }
-    ensures cause { IfErr result (Refuses geometry blocks.now) }
+    ensures { MatchOption result (AreNamed (volume_in geometry blocks.now))
+        (IsLeast (BadName geometry blocks.now)) }
 {
+    let mut least = None;
     for (i, inode) in inodes.iter().enumerate() {
-        if let Some(b) = bad_name(blocks, zero, inodes, inode) {
-            return Err(corrupt(CorruptCause::Kind, b));
-        }
+        least = lesser(least, bad_name_in(blocks, zero, inodes, inode));
     }
-    Ok(())
+    least
 }

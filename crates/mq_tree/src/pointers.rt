@@ -1,16 +1,17 @@
 // The second phase of a mount: the pointers of inodes.
-ghost use Rattle.std.specs.Prelude.{◌≡◌, ◌≤◌, ◌<◌, ℕ, IfErr, IfOk, nat_lt, slice_index};
+ghost use Rattle.std.specs.Prelude.{◌≡◌, ◌≤◌, ◌<◌, ℕ, MatchOption, nat_lt, slice_index};
 ghost use Rattle.std.specs.Bool.{MatchBool};
 ghost use Rattle.mq_blocks.specs.Blocks.{zeros};
 ghost use Rattle.mq_layout.specs.Inodes.{IsInode};
 ghost use Rattle.mq_layout.specs.Places.{inodes_of};
-ghost use Rattle.mq_tree.specs.Clean.{ArePointers, HasPointers, IsTable};
-ghost use Rattle.mq_tree.specs.Corrupt.{Refuses};
+ghost use Rattle.mq_tree.specs.Clean.{ArePointers, IsInZone, IsTable};
+ghost use Rattle.mq_tree.specs.Corrupt.{BadPointer};
 ghost use Rattle.mq_tree.specs.Decoded.{count_of, inodes_in, pointer_to, the_inode};
-ghost use Rattle.mq_tree.specs.Pointers.{AreFar, AreNear, IsRight};
+ghost use Rattle.mq_tree.specs.Least.{IsLeast, IsLeastOf};
+ghost use Rattle.mq_tree.specs.Pointers.{AreFar, AreNear, HasWrong, IsRight};
 
-use crate::corrupt::{CorruptCause, MountRefusal};
-use crate::stored::{corrupt, stored_block};
+use crate::findings::lesser;
+use crate::stored::stored_block;
 use mq_blocks::{Block, Geometry};
 use mq_layout::{FILE_LIMIT, Inode, POINTERS_PER_BLOCK, inode_block, pointer};
 
@@ -39,12 +40,18 @@ pub fn pointer_at(blocks: &[Option<Block>], zero: &Block, inode: &Inode, place: 
     pointer(stored_block(blocks, zero, inode.indirect), place - DIRECT)
 }
 
+pub fn is_in_zone(geometry: Geometry, block: u32) -> bool
+    ensures { MatchBool result (IsInZone geometry block) (IsInZone geometry block → ⊥) }
+{
+    block >= geometry.meta() && block < geometry.homes()
+}
+
 /// Whether a pointer leads into a zone if it is wanted, and else is 0.
 fn is_right(geometry: Geometry, pointer: u32, wanted: bool) -> bool
     ensures { MatchBool result (IsRight geometry wanted pointer) (IsRight geometry wanted pointer → ⊥) }
 {
     if wanted {
-        pointer >= geometry.meta() && pointer < geometry.homes()
+        is_in_zone(geometry, pointer)
     } else {
         pointer == 0
     }
@@ -89,49 +96,45 @@ fn are_far(
     true
 }
 
-fn check_inode(
+/// The least block in which a pointer of an inode is wrong.
+fn bad_inode(
     geometry: Geometry,
     blocks: &[Option<Block>],
     zero: &Block,
     i: u32,
     inode: &Inode,
-) -> Result<(), MountRefusal>
+) -> Option<u32>
     requires zero { zero.now ≡ zeros }
     requires low { i < inodes_of geometry }
     requires is { inode.now ≡ the_inode geometry blocks.now i }
     requires form { IsInode inode.now }
-    ensures ok { IfOk result (λ _. HasPointers geometry blocks.now (the_inode geometry blocks.now i)) }
-    ensures cause { IfErr result (Refuses geometry blocks.now) }
+    ensures { IsLeastOf (HasWrong geometry blocks.now i) result }
 {
     let count = block_count(inode);
-    let b = inode_block(geometry, i).0;
-    if !are_near(geometry, inode, count) {
-        return Err(corrupt(CorruptCause::Pointer, b));
-    }
-    if !is_right(geometry, inode.indirect, count > DIRECT) {
-        return Err(corrupt(CorruptCause::Pointer, b));
+    if !are_near(geometry, inode, count) || !is_right(geometry, inode.indirect, count > DIRECT) {
+        return Some(inode_block(geometry, i).0);
     }
     if count > DIRECT && !are_far(geometry, blocks, zero, inode, count) {
-        return Err(corrupt(CorruptCause::Pointer, inode.indirect));
+        return Some(inode.indirect);
     }
-    Ok(())
+    None
 }
 
-/// Checks that each inode has exactly the pointers for its blocks, each into a zone.
-pub fn check_pointers(
+/// The least block in which a pointer leads into no zone, or is not 0 where an inode has no block for it.
+pub fn bad_pointer(
     geometry: Geometry,
     blocks: &[Option<Block>],
     zero: &Block,
     inodes: &[Inode],
-) -> Result<(), MountRefusal>
+) -> Option<u32>
     requires zero { zero.now ≡ zeros }
     requires inodes { inodes.now ≡ inodes_in geometry blocks.now }
     requires table { IsTable geometry blocks.now }
-    ensures ok { IfOk result (λ _. ArePointers geometry blocks.now) }
-    ensures cause { IfErr result (Refuses geometry blocks.now) }
+    ensures { MatchOption result (ArePointers geometry blocks.now) (IsLeast (BadPointer geometry blocks.now)) }
 {
+    let mut best = None;
     for (i, inode) in inodes.iter().enumerate() {
-        check_inode(geometry, blocks, zero, i as u32, inode)?;
+        best = lesser(best, bad_inode(geometry, blocks, zero, i as u32, inode));
     }
-    Ok(())
+    best
 }

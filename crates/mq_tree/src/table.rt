@@ -1,24 +1,23 @@
-// The first phase of a mount: superblock, bitmaps and inode table are in their forms.
-ghost use Rattle.std.specs.Prelude.{◌≡◌, ◌≢◌, ◌≤◌, ◌<◌, ◌+◌, ℕ, IfErr, IfOk, OnOk, MatchOption, slice_index};
+// The first phase of a mount: superblock, bitmaps and inode table are in their forms. The checks come in the
+// order of the blocks, so that the first one to fail has the least block.
+ghost use Rattle.std.specs.Prelude.{◌≡◌, ◌≢◌, ◌≤◌, ◌<◌, ◌%◌, ℕ, IfErr, IfOk, OnOk, MatchOption, slice_index};
 ghost use Rattle.std.specs.Bool.{MatchBool};
-ghost use Rattle.mq_blocks.specs.Blocks.{block_at, zeros};
-ghost use Rattle.mq_blocks.specs.Geometry.{meta_of, queues_of, zone_size};
+ghost use Rattle.mq_blocks.specs.Blocks.{zeros};
+ghost use Rattle.mq_blocks.specs.Geometry.{meta_of};
 ghost use Rattle.mq_layout.specs.Bits.{bit_of};
-ghost use Rattle.mq_layout.specs.Inodes.{ShowsInode};
-ghost use Rattle.mq_layout.specs.Places.{inode_bitmap as inode_bitmap_of, zone_bitmap as zone_bitmap_of};
-ghost use Rattle.mq_layout.specs.Places.{inode_block as inode_block_of, inode_place as inode_place_of};
+ghost use Rattle.mq_layout.specs.Places.{inode_bitmap as inode_bitmap_of, inode_block as inode_block_of};
 ghost use Rattle.mq_layout.specs.Places.{inodes_of, table_first as table_first_of};
-ghost use Rattle.mq_layout.specs.Superblock.{super_bytes};
 ghost use Rattle.mq_tree.specs.Clean.{IsTable, NoneFrom};
-ghost use Rattle.mq_tree.specs.Corrupt.{Refuses};
-ghost use Rattle.mq_tree.specs.Decoded.{inodes_in, the_inode};
+ghost use Rattle.mq_tree.specs.Decoded.{inodes_in, table_of, the_inode};
+ghost use Rattle.mq_tree.specs.Phases.{RefusesIn};
+ghost use Rattle.mq_tree.specs.Tables.{IsTableBefore};
 
 use crate::corrupt::{CorruptCause, MountRefusal};
 use crate::stored::{corrupt, stored_block};
 use mq_blocks::{Block, Geometry, QueueNo};
 use mq_layout::{
-    Inode, bit, inode_bitmap, inode_block, inode_place, inodes, read_inode, read_super,
-    table_first, zone_bitmap,
+    INODES_PER_BLOCK, Inode, bit, inode_bitmap, inode_block, inode_place, inodes, read_inode,
+    read_super, table_first, zone_bitmap,
 };
 use std::alloc::Global;
 
@@ -45,8 +44,8 @@ fn check_super(
     zero: &Block,
 ) -> Result<(), MountRefusal>
     requires { zero.now ≡ zeros }
-    ensures ok { IfOk result (λ _. block_at blocks.now 0 ≡ super_bytes geometry) }
-    ensures cause { IfErr result (Refuses geometry blocks.now) }
+    ensures ok { IfOk result (λ _. IsTableBefore geometry blocks.now 1) }
+    ensures cause { IfErr result (RefusesIn geometry blocks.now 1) }
 {
     match read_super(geometry, stored_block(blocks, zero, 0)) {
         Ok(()) => Ok(()),
@@ -59,11 +58,10 @@ fn check_zone_bits(
     blocks: &[Option<Block>],
     zero: &Block,
 ) -> Result<(), MountRefusal>
-    requires { zero.now ≡ zeros }
-    ensures ok { IfOk result (λ _. (zone : ℕ)
-        → zone < queues_of geometry
-        → NoneFrom (block_at blocks.now (zone_bitmap_of zone)) (zone_size geometry)) }
-    ensures cause { IfErr result (Refuses geometry blocks.now) }
+    requires zero { zero.now ≡ zeros }
+    requires before { IsTableBefore geometry blocks.now 1 }
+    ensures ok { IfOk result (λ _. IsTableBefore geometry blocks.now (inode_bitmap_of geometry)) }
+    ensures cause { IfErr result (RefusesIn geometry blocks.now 1) }
 {
     for zone in 0..geometry.queues() {
         let b = zone_bitmap(geometry, QueueNo(zone)).0;
@@ -79,10 +77,10 @@ fn check_inode_bits(
     blocks: &[Option<Block>],
     zero: &Block,
 ) -> Result<(), MountRefusal>
-    requires { zero.now ≡ zeros }
-    ensures ok { IfOk result (λ _. NoneFrom (block_at blocks.now (inode_bitmap_of geometry))
-        (inodes_of geometry)) }
-    ensures cause { IfErr result (Refuses geometry blocks.now) }
+    requires zero { zero.now ≡ zeros }
+    requires before { IsTableBefore geometry blocks.now (inode_bitmap_of geometry) }
+    ensures ok { IfOk result (λ _. IsTableBefore geometry blocks.now (table_first_of geometry)) }
+    ensures cause { IfErr result (RefusesIn geometry blocks.now 1) }
 {
     let b = inode_bitmap(geometry).0;
     if first_set(stored_block(blocks, zero, b), inodes(geometry)).is_some() {
@@ -91,31 +89,35 @@ fn check_inode_bits(
     Ok(())
 }
 
-/// All inodes, by number.
+/// Reads inodes, where `found` has those before. Those of the table's first block are read before it is known
+/// whether inode 0 is a directory.
 fn read_inodes(
-    alloc: Global,
     geometry: Geometry,
     blocks: &[Option<Block>],
     zero: &Block,
-) -> Result<Vec<Inode>, MountRefusal>
-    requires { zero.now ≡ zeros }
-    ensures ok { IfOk result (λ found. found.items ≡ inodes_in geometry blocks.now) }
-    ensures shown { OnOk result ((i : ℕ)
-        → i < inodes_of geometry
-        → ShowsInode (block_at blocks.now (inode_block_of geometry i)) (inode_place_of i)
-        (the_inode geometry blocks.now i)) }
-    ensures cause { IfErr result (Refuses geometry blocks.now) }
+    start: u32,
+    end: u32,
+    found: &mut Vec<Inode>,
+) -> Result<(), MountRefusal>
+    requires zero { zero.now ≡ zeros }
+    requires whole { start % 32 ≡ 0 }
+    requires some { start ≤ end }
+    requires end { end ≤ inodes_of geometry }
+    requires before { IsTableBefore geometry blocks.now (inode_block_of geometry start) }
+    requires root { 32 < end → (the_inode geometry blocks.now 0).kind ≡ 2 }
+    requires found { found.old.items ≡ table_of start (the_inode geometry blocks.now) }
+    ensures found { IfOk result (λ _. found.new.items ≡ table_of end (the_inode geometry blocks.now)) }
+    ensures before { IfOk result (λ _. IsTableBefore geometry blocks.now (inode_block_of geometry end)) }
+    ensures cause { IfErr result (RefusesIn geometry blocks.now 1) }
 {
-    let count = inodes(geometry);
-    let mut found = Vec::with_capacity(alloc, count as usize)?;
-    for i in 0..count {
+    for i in start..end {
         let b = inode_block(geometry, i).0;
         match read_inode(stored_block(blocks, zero, b), inode_place(i)) {
             Ok(inode) => found.push(inode)?,
             Err(_) => return Err(corrupt(CorruptCause::Layout, b)),
         }
     }
-    Ok(found)
+    Ok(())
 }
 
 /// Whether all bytes of a block are 0.
@@ -137,12 +139,11 @@ fn check_rest(
     blocks: &[Option<Block>],
     zero: &Block,
 ) -> Result<(), MountRefusal>
-    requires { zero.now ≡ zeros }
-    ensures ok { IfOk result (λ _. (b k : ℕ)
-        → table_first_of geometry + 1024 ≤ b
-        → b < meta_of geometry
-        → slice_index (block_at blocks.now b) k ≡ 0) }
-    ensures cause { IfErr result (Refuses geometry blocks.now) }
+    requires zero { zero.now ≡ zeros }
+    requires before { IsTableBefore geometry blocks.now (inode_block_of geometry (inodes_of geometry)) }
+    requires root { (the_inode geometry blocks.now 0).kind ≡ 2 }
+    ensures ok { IfOk result (λ _. IsTableBefore geometry blocks.now (meta_of geometry)) }
+    ensures cause { IfErr result (RefusesIn geometry blocks.now 1) }
 {
     for b in table_first(geometry).0 + 1024..geometry.meta() {
         if !is_zero(stored_block(blocks, zero, b)) {
@@ -152,14 +153,16 @@ fn check_rest(
     Ok(())
 }
 
+/// Checks that inode 0 is a directory, where the first block of the table was read.
 fn check_root(
     geometry: Geometry,
     blocks: &[Option<Block>],
     inodes: &[Inode],
 ) -> Result<(), MountRefusal>
-    requires { inodes.now ≡ inodes_in geometry blocks.now }
+    requires inodes { inodes.now ≡ table_of 32 (the_inode geometry blocks.now) }
+    requires before { IsTableBefore geometry blocks.now (inode_block_of geometry 32) }
     ensures ok { IfOk result (λ _. (the_inode geometry blocks.now 0).kind ≡ 2) }
-    ensures cause { IfErr result (Refuses geometry blocks.now) }
+    ensures cause { IfErr result (RefusesIn geometry blocks.now 1) }
 {
     if inodes[0].kind == DIRECTORY {
         return Ok(());
@@ -177,13 +180,16 @@ pub fn read_table(
     requires { zero.now ≡ zeros }
     ensures ok { IfOk result (λ found. found.items ≡ inodes_in geometry blocks.now) }
     ensures clean { OnOk result (IsTable geometry blocks.now) }
-    ensures cause { IfErr result (Refuses geometry blocks.now) }
+    ensures cause { IfErr result (RefusesIn geometry blocks.now 1) }
 {
     check_super(geometry, blocks, zero)?;
     check_zone_bits(geometry, blocks, zero)?;
     check_inode_bits(geometry, blocks, zero)?;
-    let inodes = read_inodes(alloc, geometry, blocks, zero)?;
-    check_root(geometry, blocks, &inodes)?;
+    let count = inodes(geometry);
+    let mut found = Vec::with_capacity(alloc, count as usize)?;
+    read_inodes(geometry, blocks, zero, 0, INODES_PER_BLOCK, &mut found)?;
+    check_root(geometry, blocks, &found)?;
+    read_inodes(geometry, blocks, zero, INODES_PER_BLOCK, count, &mut found)?;
     check_rest(geometry, blocks, zero)?;
-    Ok(inodes)
+    Ok(found)
 }

@@ -1,19 +1,16 @@
-// A phase of a mount: a path leads to each used inode, and one slot alone names a directory.
-ghost use Rattle.std.specs.Prelude.{◌≡◌, ◌+◌, ◌<◌, IfErr, IfOk, OnOk, length};
+// A walk over the paths of a volume: which inodes they reach.
+ghost use Rattle.std.specs.Prelude.{◌≡◌, ◌+◌, ◌<◌, IfOk, OnOk, length};
 ghost use Rattle.mq_blocks.specs.Blocks.{zeros};
 ghost use Rattle.mq_layout.specs.Places.{inodes_of};
-ghost use Rattle.mq_tree.specs.Clean.{AreDirs, AreNamed, AreOnce, ArePointers, AreReached, IsTable};
-ghost use Rattle.mq_tree.specs.Corrupt.{Refuses};
+ghost use Rattle.mq_tree.specs.Clean.{AreDirs, AreNamed, AreNamedOnce, AreOnce, ArePointers, IsTable};
 ghost use Rattle.mq_tree.specs.Decoded.{inodes_in, volume_in};
 ghost use Rattle.mq_tree.specs.Walks.{Finds, IsWholeWalk, Starts, Walked};
 
-use crate::corrupt::{CorruptCause, MountRefusal};
 use crate::pointers::block_count;
 use crate::slots::slot_at;
-use crate::stored::corrupt;
 use crate::table::DIRECTORY;
 use mq_blocks::{Block, Geometry, OutOfMemory};
-use mq_layout::{Inode, SLOTS_PER_BLOCK, inode_block};
+use mq_layout::{Inode, SLOTS_PER_BLOCK};
 use std::alloc::Global;
 
 /// The inodes that a walk found, in the order in which it found them.
@@ -36,21 +33,17 @@ impl Walk {
         Ok(Walk { seen, order })
     }
 
-    /// Adds an inode if it was not seen before, and returns whether another slot may name it.
-    fn find(&mut self, inode: u32, kind: u8) -> Result<bool, OutOfMemory>
+    /// Adds an inode if it was not seen before.
+    fn find(&mut self, inode: u32) -> Result<(), OutOfMemory>
         requires { inode < length self.old.seen.items }
-        ensures { IfOk result (λ is_fine. Finds is_fine inode kind
+        ensures { OnOk result (Finds inode
             self.old.seen.items self.old.order.items self.new.seen.items self.new.order.items) }
     {
-        if self.seen[inode as usize] {
-            if kind == DIRECTORY {
-                return Ok(false);
-            }
-            return Ok(true);
+        if !self.seen[inode as usize] {
+            self.order.push(inode)?;
+            self.seen[inode as usize] = true;
         }
-        self.order.push(inode)?;
-        self.seen[inode as usize] = true;
-        Ok(true)
+        Ok(())
     }
 }
 
@@ -62,7 +55,7 @@ fn visit(
     inodes: &[Inode],
     walk: &mut Walk,
     done: usize,
-) -> Result<(), MountRefusal>
+) -> Result<(), OutOfMemory>
     requires zero { zero.now ≡ zeros }
     requires inodes { inodes.now ≡ inodes_in geometry blocks.now }
     requires table { IsTable geometry blocks.now }
@@ -72,11 +65,9 @@ fn visit(
     requires low { done < length walk.old.order.items }
     requires walk { Walked (volume_in geometry blocks.now)
         (inodes_of geometry) walk.old.seen.items walk.old.order.items done 0 }
-    requires pointers { ArePointers geometry blocks.now }
     ensures ok { OnOk result (Walked (volume_in geometry blocks.now)
         (inodes_of geometry) walk.new.seen.items walk.new.order.items (done + 1) 0) }
     ensures low { OnOk result (done < length walk.new.order.items) }
-    ensures cause { IfErr result (Refuses geometry blocks.now) }
 {
     let d = walk.order[done] as usize;
     let inode = &inodes[d];
@@ -85,23 +76,20 @@ fn visit(
     }
     for k in 0..SLOTS_PER_BLOCK * block_count(inode) {
         if let Some(link) = slot_at(blocks, zero, inode, k) {
-            if !walk.find(link.inode, inodes[link.inode as usize].kind)? {
-                let b = inode_block(geometry, link.inode).0;
-                return Err(corrupt(CorruptCause::Shared, b));
-            }
+            walk.find(link.inode)?;
         }
     }
     Ok(())
 }
 
-/// The inodes to which paths lead. Refuses a directory that is named by two slots.
+/// Which inodes paths lead to.
 pub fn walk_all(
     alloc: Global,
     geometry: Geometry,
     blocks: &[Option<Block>],
     zero: &Block,
     inodes: &[Inode],
-) -> Result<Vec<bool>, MountRefusal>
+) -> Result<Vec<bool>, OutOfMemory>
     requires zero { zero.now ≡ zeros }
     requires inodes { inodes.now ≡ inodes_in geometry blocks.now }
     requires table { IsTable geometry blocks.now }
@@ -109,9 +97,9 @@ pub fn walk_all(
     requires named { AreNamed (volume_in geometry blocks.now) }
     requires names { AreOnce (volume_in geometry blocks.now) }
     requires pointers { ArePointers geometry blocks.now }
+    requires once { AreNamedOnce (volume_in geometry blocks.now) }
     ensures size { IfOk result (λ seen. length seen.items ≡ inodes_of geometry) }
     ensures ok { IfOk result (λ seen. IsWholeWalk (volume_in geometry blocks.now) seen.items) }
-    ensures cause { IfErr result (Refuses geometry blocks.now) }
 {
     let mut walk = Walk::new(alloc, inodes.len())?;
     let mut done = 0;
@@ -120,26 +108,4 @@ pub fn walk_all(
         done += 1;
     }
     Ok(walk.seen)
-}
-
-/// Checks that a path leads to each used inode.
-pub fn check_reached(
-    geometry: Geometry,
-    blocks: &[Option<Block>],
-    inodes: &[Inode],
-    seen: &[bool],
-) -> Result<(), MountRefusal>
-    requires inodes { inodes.now ≡ inodes_in geometry blocks.now }
-    requires table { IsTable geometry blocks.now }
-    requires size { length seen.now ≡ inodes_of geometry }
-    requires walk { IsWholeWalk (volume_in geometry blocks.now) seen.now }
-    ensures ok { OnOk result (AreReached (volume_in geometry blocks.now)) }
-    ensures cause { IfErr result (Refuses geometry blocks.now) }
-{
-    for (i, inode) in inodes.iter().enumerate() {
-        if inode.kind != 0 && !seen[i] {
-            return Err(corrupt(CorruptCause::Unreached, inode_block(geometry, i as u32).0));
-        }
-    }
-    Ok(())
 }

@@ -1,25 +1,12 @@
-use Rattle.std.proofs.Common.{subst, sym}
-use Rattle.std.proofs.lemmas.Result.{err_from_is_err_and}
-use Rattle.mq_tree.specs.Decoded.{volume_in}
-use Rattle.mq_tree.specs.Trees.{IsAlike, kept}
-use Rattle.mq_tree.proofs.TreesMounted.{mounted-alike, mounted-countable, mounted-listing, mounted-tree, refused-none}
+use Rattle.mq_tree.proofs.FirstFindings.{phase-first, phase-refuses}
+use Rattle.mq_tree.proofs.TreesMounted.{refused-none_without}
 use Rattle.mq_tree.proofs.mounts.mount.Goals as goal
 
-pub returns-in_err-contents-clause-none : goal.returns-in_err-contents-clause-none
-returns-in_err-contents-clause-none c =
-    let p = err_from_is_err_and c.from_residual-in_err-contents.result c.from_residual-in_err-contents.ensures.1 in
-    rw (p.1, p.2) (refused-none c.args.geometry c.args.blocks.now c.in_err-contents.field-0.0 c.in_err-contents.ensures.pages c.in_err-contents.ensures.cause)
+pub returns-in-Err-clause-cause : goal.returns-in-Err-clause-cause
+returns-in-Err-clause-cause c = phase-refuses c.args.geometry c.args.blocks.now c.in-Err.refusal c.without_phase.result c.in-Err.ensures.cause c.without_phase.ensures
 
-pub new-requires : goal.new-requires
-new-requires c = mounted-countable c.args.geometry c.args.blocks.now (kept c.in_ok-contents.contents.items) c.in_ok-contents.ensures.pages c.in_ok-contents.ensures.clean c.in_ok-contents.ensures.alike
+pub returns-in-Err-clause-first : goal.returns-in-Err-clause-first
+returns-in-Err-clause-first c = phase-first c.args.geometry c.args.blocks.now c.in-Err.refusal c.without_phase.result c.in-Err.ensures.cause c.without_phase.ensures
 
-pub returns-clause-tree : goal.returns-clause-tree
-returns-clause-tree c =
-    mounted-tree c.args.geometry c.args.blocks.now c.new.result c.in_ok-contents.ensures.pages c.in_ok-contents.ensures.clean (subst (λ t. IsAlike t (volume_in c.args.geometry c.args.blocks.now)) (sym c.new.ensures) c.in_ok-contents.ensures.alike)
-
-pub returns-clause-alike : goal.returns-clause-alike
-returns-clause-alike c v laid = mounted-alike c.args.geometry c.args.blocks.now c.new.result v (subst (λ t. IsAlike t (volume_in c.args.geometry c.args.blocks.now)) (sym c.new.ensures) c.in_ok-contents.ensures.alike) laid
-
-pub returns-clause-listing : goal.returns-clause-listing
-returns-clause-listing c =
-    mounted-listing c.args.geometry c.args.blocks.now c.new.result c.in_ok-contents.ensures.pages c.in_ok-contents.ensures.clean (subst (λ t. IsAlike t (volume_in c.args.geometry c.args.blocks.now)) (sym c.new.ensures) c.in_ok-contents.ensures.alike)
+pub returns-in-Err-clause-none : goal.returns-in-Err-clause-none
+returns-in-Err-clause-none c other t of = refused-none_without c.in-Err.refusal c.without_phase.result ⊥ (λ r. c.in-Err.ensures.none r t of) c.without_phase.ensures other

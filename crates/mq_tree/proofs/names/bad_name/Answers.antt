@@ -1,14 +1,18 @@
-use Rattle.std.proofs.Common.{arith, below_more}
-use Rattle.mq_tree.proofs.DecodedNaming.{block-seen, names-at}
+use Rattle.std.proofs.Common.{arith}
+use Rattle.mq_tree.proofs.DecodedMounting.{inode-form}
+use Rattle.mq_tree.proofs.DecodedNaming.{dir-seen, names-least, names-more}
 use Rattle.mq_tree.proofs.names.bad_name.Goals as goal
 
-pub name_all-requires : goal.name_all-requires
-name_all-requires c =
-    block-seen c.args.blocks.now c.args.inode.now c.loop-place.place c.pointer_at-b.result c.stored_block.result.now c.requires.dir c.if-inode-ne-DIRECTORY.false (let e = c.block_count-place-end.ensures.is in let t = c.loop-place-test.true in omega arith) c.pointer_at-b.ensures c.stored_block.ensures
+pub bad_name_in-requires-clause-form : goal.bad_name_in-requires-clause-form
+bad_name_in-requires-clause-form c = inode-form c.args.geometry c.args.blocks.now c.args.inodes.now c.loop-i.i _ c.requires.inodes c.loop-i-test.true c.requires.table
 
-pub loop-place-preserved : goal.loop-place-preserved
-loop-place-preserved c =
-    below_more _ _ c.loop-place.invariant (names-at c.args.inodes.now c.args.blocks.now c.args.inode.now c.loop-place.place c.pointer_at-b.result c.stored_block.result.now c.pointer_at-b.ensures c.stored_block.ensures c.if-not-name_all.ensures)
+pub bad_name_in-requires-clause-dir : goal.bad_name_in-requires-clause-dir
+bad_name_in-requires-clause-dir c = dir-seen c.args.geometry c.args.blocks.now c.args.inodes.now c.loop-i.i _ c.requires.inodes c.loop-i-test.true c.requires.dirs
+
+pub loop-i-preserved : goal.loop-i-preserved
+loop-i-preserved c =
+    names-more c.args.geometry c.args.blocks.now c.args.inodes.now c.loop-i.i _ c.loop-i.least c.bad_name_in.result c.lesser-least.result c.requires.inodes c.loop-i-test.true c.loop-i.invariant c.bad_name_in.ensures c.lesser-least.ensures
 
 pub returns : goal.returns
-returns c two place low = c.loop-place.invariant place (let e = c.block_count-place-end.ensures.is in let t = c.loop-place-test.false in omega arith)
+returns c =
+    names-least c.args.geometry c.args.blocks.now c.args.inodes.now c.loop-i.i c.loop-i.least c.requires.table c.requires.pointers c.requires.inodes (let t = c.loop-i-test.false in let u = c.loop-i.auto.i-end in omega arith) c.loop-i.invariant

@@ -1,7 +1,7 @@
-use Rattle.std.proofs.Common.{◌<◌, ℕ}
-use Rattle.mq_tree.specs.Decoded.{part}
-use Rattle.mq_tree.specs.Parts.{NameAll}
+use Rattle.mq_tree.specs.Least.{IsLeastOf}
+use Rattle.mq_tree.proofs.DecodedNaming.{NamedAt}
+use Rattle.mq_tree.proofs.LeastBelow.{WrongBelow}
 use Rattle.mq_tree.proofs.names.bad_name.Given as goal
 
-abbrev pub invariant-loop-place : goal.invariant-loop-place
-invariant-loop-place l = (j : ℕ) → j < l.place → NameAll l.inodes (part l.blocks l.inode j)
+abbrev pub invariant-loop-i : goal.invariant-loop-i
+invariant-loop-i l = IsLeastOf (WrongBelow (NamedAt l.fn.geometry l.blocks l.inodes) l.i) l.least

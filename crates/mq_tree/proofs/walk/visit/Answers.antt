@@ -1,17 +1,11 @@
-use Rattle.std.proofs.Common.{arith, ap, [], ◌∙◌, ◌≡◌, ◌*◌, ℕ}
+use Rattle.std.proofs.Common.{arith, ap, ◌∙◌, ◌≡◌, ◌*◌, ℕ}
 use Rattle.std.proofs.lemmas.List.{get_or_read}
-use Rattle.mq_layout.specs.declared.inode.Inode.{Inode}
-use Rattle.mq_tree.specs.declared.corrupt.CorruptCause.TheVariants.{Shared}
 use Rattle.mq_tree.specs.declared.walk.Walk.{Walk}
-use Rattle.mq_tree.proofs.DecodedMounting.{inode-form, inode-low, inode-seen, refuses-at}
+use Rattle.mq_tree.proofs.DecodedMounting.{inode-form, inode-low, inode-seen}
 use Rattle.mq_tree.proofs.DecodedNaming.{dir-seen}
-use Rattle.mq_tree.proofs.Walks.{visit-end, visit-found, visit-inside, visit-known, visit-low, visit-none, visit-shared, visit-skip}
+use Rattle.mq_tree.proofs.Walks.{visit-end, visit-found, visit-inside, visit-low, visit-none, visit-skip}
 use Rattle.mq_tree.proofs.walk.visit.Goals as goal
-use Rattle.mq_tree.proofs.walk.visit.Goals.{in-Some+in_ok-find+else-not-branch, in_default}
-
--- what a slice has past its end
-abbrev zero_inode : Inode
-zero_inode = record { kind = 0; links = 0; size = 0; direct = []; indirect = 0 }
+use Rattle.mq_tree.proofs.walk.visit.Goals.{in-Some+in_ok-find, in_default}
 
 pub bounds-inodes-d : goal.bounds-inodes-d
 bounds-inodes-d c = visit-low c.args.geometry c.args.blocks.now c.args.inodes.now _ _ _ c.args.done 0 c.index.result.now c.requires.walk c.requires.low (get_or_read c.args.walk.now.order.items c.args.done _ c.requires.low c.index.ensures 0) c.requires.inodes
@@ -42,41 +36,12 @@ slot_at-requires-clause-dir c =
     let low = visit-low c.args.geometry c.args.blocks.now c.args.inodes.now _ _ _ c.args.done c.loop-k.k c.index.result.now i.0 i.1 i.2 c.requires.inodes in
     dir-seen c.args.geometry c.args.blocks.now c.args.inodes.now c.index.result.now _ c.requires.inodes low c.requires.dirs
 
-pub bounds-inodes-link : goal.bounds-inodes-link
-bounds-inodes-link c =
-    let i = c.loop-k.invariant in
-    let low = visit-low c.args.geometry c.args.blocks.now c.args.inodes.now _ _ _ c.args.done c.loop-k.k c.index.result.now i.0 i.1 i.2 c.requires.inodes in
-    visit-known c.args.geometry c.args.blocks.now c.loop-k.walk.seen.items c.loop-k.walk.order.items c.args.done c.loop-k.k c.index.result.now _ (record { inode = c.in-Some.link.inode; name = c.in-Some.link.name.now }) c.args.inodes.now c.requires.named c.loop-k.invariant
-    (inode-low c.args.geometry c.args.blocks.now c.args.inodes.now c.index.result.now c.requires.inodes low) (inode-seen _ _ c.args.inodes.now c.index.result.now _ c.requires.inodes low) c.if-inode-ne-DIRECTORY.false
-    (let t = c.loop-k-test.true in let e = c.block_count-k-end.ensures.is in omega arith) c.in-Some.ensures c.requires.inodes
-
 pub find-requires : goal.find-requires
 find-requires c =
     let i = c.loop-k.invariant in
     let low = visit-low c.args.geometry c.args.blocks.now c.args.inodes.now _ _ _ c.args.done c.loop-k.k c.index.result.now i.0 i.1 i.2 c.requires.inodes in
     visit-inside c.args.geometry c.args.blocks.now c.loop-k.walk.seen.items c.loop-k.walk.order.items c.args.done c.loop-k.k c.index.result.now _ _ c.requires.named c.loop-k.invariant (inode-low c.args.geometry c.args.blocks.now c.args.inodes.now c.index.result.now c.requires.inodes low)
     (inode-seen _ _ c.args.inodes.now c.index.result.now _ c.requires.inodes low) c.if-inode-ne-DIRECTORY.false (let t = c.loop-k-test.true in let e = c.block_count-k-end.ensures.is in omega arith) c.in-Some.ensures
-
-pub inode_block-requires : goal.inode_block-requires
-inode_block-requires c =
-    let i = c.loop-k.invariant in
-    let low = visit-low c.args.geometry c.args.blocks.now c.args.inodes.now _ _ _ c.args.done c.loop-k.k c.index.result.now i.0 i.1 i.2 c.requires.inodes in
-    let inside = visit-inside c.args.geometry c.args.blocks.now c.loop-k.walk.seen.items c.loop-k.walk.order.items c.args.done c.loop-k.k c.index.result.now _ _ c.requires.named c.loop-k.invariant (inode-low c.args.geometry c.args.blocks.now c.args.inodes.now c.index.result.now c.requires.inodes low)
-    (inode-seen _ _ c.args.inodes.now c.index.result.now _ c.requires.inodes low) c.if-inode-ne-DIRECTORY.false (let t = c.loop-k-test.true in let e = c.block_count-k-end.ensures.is in omega arith) c.in-Some.ensures in
-    let size = i.0.listing.size in
-    omega arith
-
-pub returns-then-not-branch-clause-cause : goal.returns-then-not-branch-clause-cause
-returns-then-not-branch-clause-cause c =
-    let i = c.loop-k.invariant in
-    let low = visit-low c.args.geometry c.args.blocks.now c.args.inodes.now _ _ _ c.args.done c.loop-k.k c.index.result.now i.0 i.1 i.2 c.requires.inodes in
-    let inside = visit-known c.args.geometry c.args.blocks.now c.loop-k.walk.seen.items c.loop-k.walk.order.items c.args.done c.loop-k.k c.index.result.now _ (record { inode = c.in-Some.link.inode; name = c.in-Some.link.name.now }) c.args.inodes.now c.requires.named c.loop-k.invariant
-    (inode-low c.args.geometry c.args.blocks.now c.args.inodes.now c.index.result.now c.requires.inodes low) (inode-seen _ _ c.args.inodes.now c.index.result.now _ c.requires.inodes low) c.if-inode-ne-DIRECTORY.false
-    (let t = c.loop-k-test.true in let e = c.block_count-k-end.ensures.is in omega arith) c.in-Some.ensures c.requires.inodes in
-    let says = ap (λ (n : Inode). n.kind) (inode-seen c.args.geometry c.args.blocks.now c.args.inodes.now c.in-Some.link.inode zero_inode c.requires.inodes inside) in
-    refuses-at _ _ Shared _ _ c.corrupt.ensures (visit-shared c.args.geometry c.args.blocks.now c.loop-k.walk.seen.items _ c.loop-k.walk.order.items _ c.args.done c.loop-k.k c.index.result.now c.b.inside.0 _ _ _ c.in_ok-find.field-0 c.requires.table says c.requires.pointers c.requires.named c.loop-k.invariant
-    (inode-low c.args.geometry c.args.blocks.now c.args.inodes.now c.index.result.now c.requires.inodes low) (inode-seen _ _ c.args.inodes.now c.index.result.now _ c.requires.inodes low) c.if-inode-ne-DIRECTORY.false (let t = c.loop-k-test.true in let e = c.block_count-k-end.ensures.is in omega arith)
-    c.in-Some.ensures c.in_ok-find.ensures c.if-not-branch.true (c.b.view_is ∙ c.inode_block.ensures.is))
 
 pub loop-k-preserved : goal.loop-k-preserved
 loop-k-preserved c =
@@ -85,13 +50,9 @@ loop-k-preserved c =
     let known = inode-low c.args.geometry c.args.blocks.now c.args.inodes.now c.index.result.now c.requires.inodes low in
     let seen = inode-seen _ _ c.args.inodes.now c.index.result.now _ c.requires.inodes low in
     elim c.match-slot_at.branch [
-      | in-Some+in_ok-find+else-not-branch w ↦
-          let inside = visit-known c.args.geometry c.args.blocks.now c.loop-k.walk.seen.items c.loop-k.walk.order.items c.args.done c.loop-k.k c.index.result.now _ (record { inode = w.in-Some.link.inode; name = w.in-Some.link.name.now }) c.args.inodes.now c.requires.named c.loop-k.invariant
-          (inode-low c.args.geometry c.args.blocks.now c.args.inodes.now c.index.result.now c.requires.inodes low) (inode-seen _ _ c.args.inodes.now c.index.result.now _ c.requires.inodes low) c.if-inode-ne-DIRECTORY.false
-          (let t = c.loop-k-test.true in let e = c.block_count-k-end.ensures.is in omega arith) w.in-Some.ensures c.requires.inodes in
-          let says = ap (λ (n : Inode). n.kind) (inode-seen c.args.geometry c.args.blocks.now c.args.inodes.now w.in-Some.link.inode zero_inode c.requires.inodes inside) in
-          visit-found c.args.geometry c.args.blocks.now c.loop-k.walk.seen.items w.find.new.self.seen.items _ c.loop-k.walk.order.items w.find.new.self.order.items _ c.args.done c.loop-k.k c.index.result.now _ _ _ w.in_ok-find.field-0 c.requires.table says c.requires.names c.requires.named c.loop-k.invariant known seen
-          c.if-inode-ne-DIRECTORY.false (let t = c.loop-k-test.true in let e = c.block_count-k-end.ensures.is in omega arith) w.in-Some.ensures w.in_ok-find.ensures w.if-not-branch.false (ap (λ (x : Walk). x.seen.items) w.walk-is) (ap (λ (x : Walk). x.order.items) w.walk-is)
+      | in-Some+in_ok-find w ↦
+          visit-found c.args.geometry c.args.blocks.now c.loop-k.walk.seen.items w.find.new.self.seen.items _ c.loop-k.walk.order.items w.find.new.self.order.items _ c.args.done c.loop-k.k c.index.result.now _ _ c.requires.names c.requires.named c.loop-k.invariant known seen
+          c.if-inode-ne-DIRECTORY.false (let t = c.loop-k-test.true in let e = c.block_count-k-end.ensures.is in omega arith) w.in-Some.ensures w.in_ok-find.ensures (ap (λ (x : Walk). x.seen.items) w.walk-is) (ap (λ (x : Walk). x.order.items) w.walk-is)
       | in_default w ↦
           visit-skip c.args.geometry c.args.blocks.now c.loop-k.walk.seen.items _ c.loop-k.walk.order.items _ c.args.done c.loop-k.k c.index.result.now _ c.loop-k.invariant known seen c.if-inode-ne-DIRECTORY.false (let t = c.loop-k-test.true in let e = c.block_count-k-end.ensures.is in omega arith)
           w.in_default.ensures (ap (λ (x : Walk). x.seen.items) w.walk-is) (ap (λ (x : Walk). x.order.items) w.walk-is)

@@ -21,4 +21,4 @@ loop-done-smaller c =
     omega arith
 
 pub returns-clause-ok : goal.returns-clause-ok
-returns-clause-ok c = walked-whole (volume_in c.args.geometry c.args.blocks.now) (inodes_of c.args.geometry) c.loop-done.walk.seen.items c.loop-done.walk.order.items c.loop-done.done c.loop-done.invariant (search rules)
+returns-clause-ok c = walked-whole (volume_in c.args.geometry c.args.blocks.now) (inodes_of c.args.geometry) c.loop-done.walk.seen.items c.loop-done.walk.order.items c.loop-done.done c.requires.once c.loop-done.invariant (search rules)

@@ -1,7 +1,0 @@
-use Rattle.std.proofs.Common.{◌<◌, ℕ}
-use Rattle.mq_tree.specs.Decoded.{the_inode}
-use Rattle.mq_tree.specs.Parts.{AreDirBlocks}
-use Rattle.mq_tree.proofs.dirs.check_dirs.Given as goal
-
-abbrev pub invariant-loop-i : goal.invariant-loop-i
-invariant-loop-i l = (k : ℕ) → k < l.i → AreDirBlocks l.blocks (the_inode l.fn.geometry l.blocks k)
