@@ -55,6 +55,6 @@ two_seats fuse q r seats are first second = subst (All (λ s. fuse_of s ≡ fuse
 
 module _ {Z : Type 0} where
   -- its file is kept where it is wanted
-  pub keeps_left : (wanted : Bool) (lines : List (List BlockItem)) (cut : Option ℕ) (p : ℕ) (x : DriveImage) (left : Option (Vec ℕ Z)) → IsLeft lines cut p x → (wanted ≡ false → left ≡ None) → (wanted ≡ true → IsFile (image_bytes x) left) → KeepsLeft wanted lines cut p left
-  keeps_left false lines cut p x left is none some = none refl
-  keeps_left true lines cut p x left is none some = (x, is, some refl)
+  pub keeps_left : (wanted : Bool) (x : DriveImage) (left : Option (Vec ℕ Z)) → (wanted ≡ false → left ≡ None) → (wanted ≡ true → IsFile (image_bytes x) left) → KeepsLeft wanted x left
+  keeps_left false x left none some = none refl
+  keeps_left true x left none some = some refl

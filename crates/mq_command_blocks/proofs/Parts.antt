@@ -3,6 +3,7 @@ use Rattle.std.proofs.Common.{◌≡◌, inl, inr, ℕ, Bool, List, Option, Some
 use Rattle.std.specs.Prelude.{is_some, option_map}
 use Rattle.std.specs.declared.vec.Vec.{Vec}
 use Rattle.mq_command_io.specs.Ending.{EndsWith, IsLoaded, IsSaved, memory_line}
+use Rattle.mq_image.specs.File.{DriveImage}
 use Rattle.mq_outside.specs.Outside.{FilesState, SinkState}
 use Rattle.mq_block_text.specs.Refusals.{IsRefused, RefusesText}
 use Rattle.mq_block_text.specs.declared.item.BlockItem.{BlockItem}
@@ -13,6 +14,7 @@ use Rattle.mq_command_blocks.specs.Blocks.{IsBlockText, output_of, refused_line}
 use Rattle.mq_command_blocks.specs.Cuts.{IsPrefixAt}
 use Rattle.mq_command_blocks.specs.Left.{KeepsLeft, SavesLeft}
 use Rattle.mq_command_blocks.specs.Parts.{EndsRefused, EndsRun, SavesFile}
+use Rattle.mq_command_blocks.specs.Picked.{IsRunBy, pick_of}
 use Rattle.mq_command_blocks.specs.SaysOfBlocks.{SaysOfBlocks}
 use Rattle.mq_command_blocks.specs.SaysOfBlocks as says
 
@@ -27,24 +29,20 @@ BlocksEnd file options save old new result before after = (status : ℕ) × (tex
 ends_from : (status : ℕ) (text : List ℕ) (result : ℕ) (before between after : SinkState) → between ≡ before → EndsWith status text result between after → EndsWith status text result before after
 ends_from status text result before between after silent ends = subst (λ (s : SinkState). EndsWith status text result s after) silent ends
 
-module _ {Z : Type 0} (lines : List (List BlockItem)) (cut : Option ℕ) (p : ℕ) (old new : FilesState) where
+module _ {Z : Type 0} (x : DriveImage) (old new : FilesState) where
   -- what is kept is saved where a name is given
-  left_saved : (save : Option (List ℕ)) (left : Option (Vec ℕ Z)) (wanted : Bool) → wanted ≡ is_some save → KeepsLeft wanted lines cut p left → SavesFile left save old new → SavesLeft save lines cut p old new
+  left_saved : (save : Option (List ℕ)) (left : Option (Vec ℕ Z)) (wanted : Bool) → wanted ≡ is_some save → KeepsLeft wanted x left → SavesFile left save old new → SavesLeft save x old new
   left_saved None None wanted is keeps saves = saves
   left_saved None (Some file) wanted is keeps saves = saves
-  left_saved (Some name) None wanted is keeps saves =
-      let kept = subst (λ (b : Bool). KeepsLeft {Z = Z} b lines cut p None) is keeps in
-      absurd kept.2
-  left_saved (Some name) (Some file) wanted is keeps saves =
-      let kept = subst (λ (b : Bool). KeepsLeft b lines cut p (Some file)) is keeps in
-      (kept.0, kept.1, subst (λ (l : List ℕ). IsSaved name l old new) kept.2 saves)
+  left_saved (Some name) None wanted is keeps saves = absurd (subst (λ (b : Bool). KeepsLeft {Z = Z} b x None) is keeps)
+  left_saved (Some name) (Some file) wanted is keeps saves = subst (λ (l : List ℕ). IsSaved name l old new) (subst (λ (b : Bool). KeepsLeft b x (Some file)) is keeps) saves
 
 module _ {Z : Type 0} (file : List ℕ) (options : BlocksOptions) (save : Option (List ℕ)) (bytes : List ℕ) (old mid new : FilesState) (result : ℕ) (before between after : SinkState) (load : IsLoaded file bytes old mid) (silent : between ≡ before) where
-  pub ran : (lines : List (List BlockItem)) (p : ℕ) (left : Option (Vec ℕ Z)) (output : List ℕ) (wanted : Bool) → IsBlockText bytes lines → IsPrefixAt lines options.cut p → output ≡ output_of lines p → KeepsLeft wanted lines options.cut p left → wanted ≡ is_some save
+  pub ran : (lines : List (List BlockItem)) (p : ℕ) (x : DriveImage) (left : Option (Vec ℕ Z)) (output : List ℕ) (wanted : Bool) → IsBlockText bytes lines → IsPrefixAt lines options.cut p → output ≡ output_of lines p → IsRunBy lines options.cut options.again (pick_of options) p x → KeepsLeft wanted x left → wanted ≡ is_some save
       → EndsRun left output save mid new result between after → BlocksEnd file options save old new result before after
-  ran lines p left output wanted is at prints keeps asks (inl done) =
-      (0, output_of lines p, says.printed bytes lines p mid load is at (left_saved lines options.cut p mid new save left wanted asks keeps done.0), ends_from 0 (output_of lines p) result before between after silent (subst (λ (t : List ℕ). EndsWith 0 t result between after) prints done.1))
-  ran lines p left output wanted is at prints keeps asks (inr not) =
+  ran lines p x left output wanted is at prints run keeps asks (inl done) =
+      (0, output_of lines p, says.printed bytes lines p x mid load is at run (left_saved x mid new save left wanted asks keeps done.0), ends_from 0 (output_of lines p) result before between after silent (subst (λ (t : List ℕ). EndsWith 0 t result between after) prints done.1))
+  ran lines p x left output wanted is at prints run keeps asks (inr not) =
       (not.0, not.1, says.not_saved bytes lines not.2 mid not.3 load is not.4, ends_from not.0 not.1 result before between after silent not.5)
 
 pub not_run : (file : List ℕ) (options : BlocksOptions) (save : Option (List ℕ)) (bytes : List ℕ) (old new : FilesState) (result : ℕ) (before between after : SinkState) → IsLoaded file bytes old new → between ≡ before

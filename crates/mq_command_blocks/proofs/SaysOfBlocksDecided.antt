@@ -28,7 +28,7 @@ one_held (Some held) name bytes other tells holds = let same : ◌≡◌ {A = Op
 
 module _ (file : List ℕ) (options : BlocksOptions) (save : Option (List ℕ)) (old new : FilesState) (result : ℕ) where
   good_decided : (bytes : List ℕ) (lines : List (List BlockItem)) → Tells old.contents file (Some bytes) → IsBlockText bytes lines → (status : ℕ) (text : List ℕ) → SaysOfBlocks file options save old new status text → IsUnlessFailed status result → IsUnlessFailed 0 result
-  good_decided bytes lines tells is _ _ (printed others rows p mid load good at saves) ends = ends
+  good_decided bytes lines tells is _ _ (printed others rows p x mid load good at run saves) ends = ends
   good_decided bytes lines tells is _ _ (refused others line cause load refuses) ends =
       let same : bytes ≡ others = one_held old.contents file bytes others tells load.holds in
       absurd (good_or_refused bytes lines line cause is.spelled is.good (subst (λ (l : List ℕ). RefusesText l line cause) (sym same) refuses))
@@ -37,7 +37,7 @@ module _ (file : List ℕ) (options : BlocksOptions) (save : Option (List ℕ)) 
   good_decided bytes lines tells is _ _ (blocks_says.wants_memory same faults) ends = still-memory 0 result ends
 
   bad_decided : (bytes : List ℕ) (line : ℕ) (cause : BlockTextCause) → Tells old.contents file (Some bytes) → RefusesText bytes line cause → (status : ℕ) (text : List ℕ) → SaysOfBlocks file options save old new status text → IsUnlessFailed status result → IsUnlessFailed 2 result
-  bad_decided bytes line cause tells bad _ _ (printed others rows p mid load good at saves) ends =
+  bad_decided bytes line cause tells bad _ _ (printed others rows p x mid load good at run saves) ends =
       let same : bytes ≡ others = one_held old.contents file bytes others tells load.holds in
       absurd (good_or_refused others rows line cause good.spelled good.good (subst (λ (l : List ℕ). RefusesText l line cause) same bad))
   bad_decided bytes line cause tells bad _ _ (refused others l c load refuses) ends = ends

@@ -76,15 +76,12 @@ module _ {Z : Type 0} where
   IsFile bytes None = ⊥
   IsFile bytes (Some file) = file.items ≡ bytes
 
-  -- the file of such an image is kept where it is wanted
-  abbrev pub KeepsLeft : Bool → List (List BlockItem) → (cut : Option ℕ) → (p : ℕ) → Option (Vec ℕ Z)
-      → Type 0
-  KeepsLeft false lines cut p file = file ≡ None
-  KeepsLeft true lines cut p file = (x : DriveImage) × IsLeft lines cut p x × IsFile (image_bytes x) file
+  -- the file of the image is kept where it is wanted
+  abbrev pub KeepsLeft : Bool → DriveImage → Option (Vec ℕ Z) → Type 0
+  KeepsLeft false x file = file ≡ None
+  KeepsLeft true x file = IsFile (image_bytes x) file
 
--- such an image is saved under the name, where one is given; else nothing changes
-abbrev pub SavesLeft : Option (List ℕ) → List (List BlockItem) → (cut : Option ℕ) → (p : ℕ)
-    → (old new : FilesState) → Type 0
-SavesLeft None lines cut p old new = new ≡ old
-SavesLeft (Some name) lines cut p old new =
-    (x : DriveImage) × IsLeft lines cut p x × IsSaved name (image_bytes x) old new
+-- the image is saved under the name, where one is given; else nothing changes
+abbrev pub SavesLeft : Option (List ℕ) → DriveImage → (old new : FilesState) → Type 0
+SavesLeft None x old new = new ≡ old
+SavesLeft (Some name) x old new = IsSaved name (image_bytes x) old new

@@ -7,6 +7,7 @@ pub mod Left
 pub mod Lines
 pub mod Live
 pub mod Parts
+pub mod Picked
 pub mod Ports
 pub mod Restart
 pub mod Runs

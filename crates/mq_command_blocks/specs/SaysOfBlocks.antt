@@ -1,6 +1,7 @@
 -- What there is to say for `blocks` of a file, and with which status; and which status the file decides.
 use Rattle.std.specs.Prelude.{◌≡◌, ℕ, List, Option, Some}
 use Rattle.mq_command_io.specs.Ending.{IsLoaded, IsNotLoaded, IsNotSaved, memory_line}
+use Rattle.mq_image.specs.File.{DriveImage}
 use Rattle.mq_outside.specs.Outside.{FilesState, Held, Tells}
 use Rattle.mq_block_text.specs.Refusals.{RefusesText}
 use Rattle.mq_block_text.specs.declared.item.BlockItem.{BlockItem}
@@ -8,17 +9,19 @@ use Rattle.mq_block_text.specs.declared.refusal.BlockTextCause.{BlockTextCause}
 use Rattle.mq_command_blocks.specs.Blocks.{IsBlockText, output_of, refused_line}
 use Rattle.mq_command_blocks.specs.Cuts.{IsPrefixAt}
 use Rattle.mq_command_blocks.specs.Left.{SavesLeft}
+use Rattle.mq_command_blocks.specs.Picked.{IsRunBy, pick_of}
 use Rattle.mq_cli.specs.declared.command.BlocksOptions.{BlocksOptions}
 
--- The file holds a text, and the output is that of the lines that stand after the cut; the image that the
--- cut left is saved before, where a name for it is given. Or the text is refused; or it is not loaded, or
+-- The file holds a text, and the output is that of the lines that stand after the cut, on an image that the
+-- pick chose; the image is saved before, where a name for it is given. Or the text is refused; or it is not loaded, or
 -- the image not saved.
 pub data SaysOfBlocks (file : List ℕ) (options : BlocksOptions) (save : Option (List ℕ))
     (old new : FilesState) : (status : ℕ)
     → (text : List ℕ) → Type 0 where
-  printed : (bytes : List ℕ) (lines : List (List BlockItem)) (p : ℕ) (loaded : FilesState)
+  printed : (bytes : List ℕ) (lines : List (List BlockItem)) (p : ℕ) (x : DriveImage)
+      (loaded : FilesState)
       → IsLoaded file bytes old loaded → IsBlockText bytes lines → IsPrefixAt lines options.cut p
-      → SavesLeft save lines options.cut p loaded new
+      → IsRunBy lines options.cut options.again (pick_of options) p x → SavesLeft save x loaded new
       → SaysOfBlocks file options save old new 0 (output_of lines p)
   refused : (bytes : List ℕ) (line : ℕ) (cause : BlockTextCause) → IsLoaded file bytes old new
       → RefusesText bytes line cause

@@ -10,9 +10,10 @@ ghost use Rattle.mq_command_blocks.specs.Cuts.{IsPrefixAt};
 ghost use Rattle.mq_block_text.specs.declared.refusal.BlockTextCause.{BlockTextCause};
 ghost use Rattle.mq_block_text.specs.Refusals.{IsRefusal, IsRefused, RefusesText};
 ghost use Rattle.mq_command_blocks.specs.Left.{IsCutText, IsFile, IsLeft, IsPickedText, KeepsLeft};
+ghost use Rattle.mq_command_blocks.specs.Picked.{IsPickedLeft, IsRunBy, pick_of};
 ghost use Rattle.mq_cli.specs.Asked.{AreSmall};
 ghost use Rattle.mq_image.specs.Drives.{IsDrive};
-ghost use Rattle.mq_image.specs.File.{image_bytes};
+ghost use Rattle.mq_image.specs.File.{DriveImage as Image, image_bytes};
 ghost use Rattle.mq_image_ops.specs.Starts.{AreFreshSeats};
 
 use crate::commit::{TextRefusal, commit_text};
@@ -89,7 +90,8 @@ fn commit_fresh(
     requires good { IsGoodText text.now }
     requires below { AllBelow (homes_of geometry) text.now }
     requires cut { IfSome cut (λ k. k < 2 ^ 63) }
-    ensures { IfOk result (λ x. (p : ℕ) × IsPrefixAt text.now cut p × IsLeft text.now cut p x) }
+    ensures stands { IfOk result (λ x. (p : ℕ) × IsPrefixAt text.now cut p × IsLeft text.now cut p x) }
+    ensures chosen { IfOk result (IsPickedLeft cut pick) }
 {
     let (fuse, seats) = drive_power(alloc, geometry, cut)?;
     let left = commit_until(alloc, &fuse, seats, geometry, text, pick)?;
@@ -138,9 +140,11 @@ fn run_text(
     requires cut { IfSome cut (λ k. k < 2 ^ 63) }
     requires again { IfSome again (λ k. k < 2 ^ 63) }
     ensures { IfOk result (λ r. (p : ℕ)
+        × (x : Image)
         × IsPrefixAt text.now cut p
         × (r.output.items ≡ output_of text.now p)
-        × KeepsLeft wanted text.now cut p r.left) }
+        × IsRunBy text.now cut again pick p x
+        × KeepsLeft wanted x r.left) }
 {
     let geometry = text_geometry();
     let image = commit_fresh(alloc, geometry, text, cut, pick)?;
@@ -163,10 +167,12 @@ pub fn run_bytes(
     requires small { AreSmall options }
     ensures ok { IfOk result (λ r. (lines : List (List BlockItem))
         × (p : ℕ)
+        × (x : Image)
         × IsBlockText bytes.now lines
         × IsPrefixAt lines options.cut p
         × (r.output.items ≡ output_of lines p)
-        × KeepsLeft wanted lines options.cut p r.left) }
+        × IsRunBy lines options.cut options.again (pick_of options) p x
+        × KeepsLeft wanted x r.left) }
     ensures refused { IfErr result (IsRefused (RefusesText bytes.now)) }
     ensures exact { (line : ℕ) (cause : BlockTextCause)
         → RefusesText bytes.now line cause

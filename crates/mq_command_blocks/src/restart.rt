@@ -3,6 +3,7 @@ ghost use Rattle.std.specs.Prelude.{◌≡◌, ◌<◌, ◌≤◌, ◌^◌, ℕ,
 ghost use Rattle.std.specs.Option.{ForSome};
 ghost use Rattle.mq_blocks.specs.Descriptor.{Descriptor};
 ghost use Rattle.mq_blocks.specs.Journal.{Reaches};
+ghost use Rattle.mq_command_blocks.specs.Picked.{IsBroughtHome, IsRestarted};
 ghost use Rattle.mq_command_blocks.specs.Restart.{StandsOn};
 ghost use Rattle.mq_image.specs.Drives.{IsDrive};
 ghost use Rattle.mq_image_ops.specs.Cuts.{IsPickedRecovery};
@@ -59,7 +60,8 @@ fn recover_readable(
 fn stands_now(alloc: Global, image: DriveImage, pick: u64) -> Result<Standing, OutOfMemory>
     requires drive { IsDrive image }
     requires readable { (ds : List Descriptor) × Reaches image.geometry (view_of image) ds }
-    ensures { IfOk result (λ r. StandsOn image r.prefix r.blocks.items) }
+    ensures stands { IfOk result (λ r. StandsOn image r.prefix r.blocks.items) }
+    ensures chosen { IfOk result (λ r. IsBroughtHome image pick r.prefix r.blocks.items) }
 {
     let recovered = recover_readable(alloc, image, None, pick)?;
     let prefix = recovered.found.prefix;
@@ -79,7 +81,8 @@ pub fn stands_after(
     requires drive { IsDrive image }
     requires readable { (ds : List Descriptor) × Reaches image.geometry (view_of image) ds }
     requires again { IfSome again (λ k. k < 2 ^ 63) }
-    ensures { IfOk result (λ r. StandsOn image r.prefix r.blocks.items) }
+    ensures stands { IfOk result (λ r. StandsOn image r.prefix r.blocks.items) }
+    ensures chosen { IfOk result (λ r. IsRestarted image again pick r.prefix r.blocks.items) }
 {
     match again {
         None => stands_now(alloc, image, pick),

@@ -6,6 +6,8 @@ use Rattle.mq_command_images.specs.Lines.{drive_line}
 use Rattle.mq_command_io.specs.Ending.{IsLoaded, IsNotSaved, IsSaved, SaysOf}
 use Rattle.mq_image.specs.Drives.{IsRead}
 use Rattle.mq_image.specs.File.{DriveImage, image_bytes}
+use Rattle.mq_image_laws.specs.Rest.{LeavesRest}
+use Rattle.mq_image_ops.specs.Cuts.{IsPickedRecovery}
 use Rattle.mq_image_ops.specs.Dump.{base_line, prefix_line}
 use Rattle.mq_image_ops.specs.Recovering.{IsRecoveryOf}
 use Rattle.mq_image_ops.specs.Standing.{RefusesDrive}
@@ -26,23 +28,31 @@ recovered_text r = prefix_line r.found.prefix ++ (base_line r.found.base ++ cut_
 abbrev pub IsRecoveryFile : RecoveredImage → (file text : List ℕ) → Type 0
 IsRecoveryFile r file text = (file ≡ image_bytes r.image) × (text ≡ recovered_text r)
 
--- the same of a recovery of this image
-abbrev pub IsRecoveredAs : DriveImage → (limit : Option ℕ) → (file text : List ℕ) → Type 0
-IsRecoveredAs x limit file text = (r : RecoveredImage) × IsRecoveryOf x limit r × IsRecoveryFile r file text
+-- The image was recovered with power for `limit` events, if that is given, and this is left of it: the
+-- image that the pick chose, with all that a recovery does not write as it was.
+pub record IsRecoveredBy (x : DriveImage) (limit : Option ℕ) (pick : ℕ) (r : RecoveredImage) : Type 0 where
+  pub recovery : IsRecoveryOf x limit r
+  pub chosen : IsPickedRecovery x limit pick r
+  pub rest : LeavesRest x recovery.writes r.image
+
+-- the file of what that left, and what is said of it
+abbrev pub IsRecoveredAs : DriveImage → (limit : Option ℕ) → (pick : ℕ) → (file text : List ℕ) → Type 0
+IsRecoveredAs x limit pick file text =
+    (r : RecoveredImage) × IsRecoveredBy x limit pick r × IsRecoveryFile r file text
 
 -- the image is not readable
 pub data RefusesRecovery (x : DriveImage) : (status : ℕ) → (text : List ℕ) → Type 0 where
   not_recovered : (e : ImageFault) → RefusesDrive x e → RefusesRecovery x 3 (drive_line e)
 
 -- The image that the name held was recovered with power for `limit` events, if that is given, and the name
--- holds what that left; or nothing was saved, and the reason is printed.
-pub data Recovers (limit : Option ℕ) (name : List ℕ) (old new : FilesState) : (status : ℕ)
+-- holds what that left by the pick; or nothing was saved, and the reason is printed.
+pub data Recovers (limit : Option ℕ) (pick : ℕ) (name : List ℕ) (old new : FilesState) : (status : ℕ)
     → (text : List ℕ) → Type 0 where
   recovered : (bytes : List ℕ) (x : DriveImage) (r : RecoveredImage) (mid : FilesState)
-      → IsLoaded name bytes old mid → IsRead x bytes → IsRecoveryOf x limit r
-      → IsSaved name (image_bytes r.image) mid new → Recovers limit name old new 0 (recovered_text r)
+      → IsLoaded name bytes old mid → IsRead x bytes → IsRecoveredBy x limit pick r
+      → IsSaved name (image_bytes r.image) mid new → Recovers limit pick name old new 0 (recovered_text r)
   refused : {status : ℕ} {text : List ℕ} → SaysOf (SaysOfImage RefusesRecovery) name old new status text
-      → Recovers limit name old new status text
+      → Recovers limit pick name old new status text
   unsaved : {status : ℕ} {text : List ℕ} (bytes : List ℕ) (mid : FilesState)
       → IsLoaded name bytes old mid → IsNotSaved name mid new status text
-      → Recovers limit name old new status text
+      → Recovers limit pick name old new status text

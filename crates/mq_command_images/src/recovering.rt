@@ -18,6 +18,7 @@ use crate::answer::{Answer, refuse_drive, refuse_file, save_and_say, say_answer}
 use mq_blocks::OutOfMemory;
 use mq_command_io::load_or_say;
 use mq_image::{DriveImage, read_image, write_image_over, written_images_are_read};
+use mq_image_laws::a_recovery_leaves_the_rest;
 use mq_image_ops::{RecoveredImage, recover_image};
 use mq_outside::{Files, Sink};
 use std::alloc::Global;
@@ -84,9 +85,10 @@ fn recover_drive(
 ) -> Result<Recovery, Result<Answer, OutOfMemory>>
     requires image { IsDrive image }
     requires cut { ForSome cut (λ k. k ≤ 2 ^ 63) }
-    ensures ok { IfOk result (λ v. IsRecoveredAs image cut v.file.items v.text.items) }
+    ensures ok { IfOk result (λ v. IsRecoveredAs image cut pick v.file.items v.text.items) }
     ensures refused { IfErr result (λ answer. IfOk answer (λ a. RefusesRecovery image a.status a.text.items)) }
 {
+    a_recovery_leaves_the_rest();
     let recovered = match recover_image(alloc, image, cut, pick) {
         Ok(recovered) => recovered,
         Err(fault) => return Err(refuse_drive(alloc, fault)),
@@ -107,7 +109,7 @@ fn recover_bytes(
     requires cut { ForSome cut (λ k. k ≤ 2 ^ 63) }
     ensures ok { IfOk result (λ v. (x : Image)
         × IsRead x bytes.items
-        × IsRecoveredAs x cut v.file.items v.text.items) }
+        × IsRecoveredAs x cut pick v.file.items v.text.items) }
     ensures refused { IfErr result (λ answer. IfOk answer (λ a. SaysOfImage RefusesRecovery bytes.items a.status
         a.text.items)) }
 {
@@ -130,7 +132,7 @@ fn recover_or_say<F: Files, K: Sink>(
     requires { ForSome cut (λ k. k ≤ 2 ^ 63) }
     ensures { (status : ℕ)
         × (text : List ℕ)
-        × Recovers cut name.now (F.state files.old) (F.state files.new) status text
+        × Recovers cut pick name.now (F.state files.old) (F.state files.new) status text
         × EndsWith status text result (K.state out.old) (K.state out.new) }
 {
     let bytes = match load_or_say(alloc, name, files, out) {
@@ -158,7 +160,7 @@ pub fn recover<F: Files, K: Sink>(
     requires { ForSome cut (λ k. k ≤ 2 ^ 63) }
     ensures ends { (status : ℕ)
         × (text : List ℕ)
-        × Recovers cut name.now (F.state files.old) (F.state files.new) status text
+        × Recovers cut pick name.now (F.state files.old) (F.state files.new) status text
         × EndsWith status text result (K.state out.old) (K.state out.new) }
     ensures done_where { (bytes : List ℕ) (x : Image) (ds : List Descriptor) (top : ℕ)
         → Tells (F.state files.old).contents name.now (Some bytes)

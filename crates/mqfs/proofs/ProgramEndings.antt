@@ -142,7 +142,7 @@ zero-or-saved name old new _ _ (save_memory same faults taken) zero = omega (ari
 
 module _ (file : List ℕ) (options : BlocksOptions) (save : Option (List ℕ)) (files new_files : FilesState) (old new : SinkState) where
   done_of : (status : ℕ) (text : List ℕ) → SaysOfBlocks file options save files new_files status text → status ≡ 0 → new.contents ≡ appended old.contents text → IsDone file options save files new_files old new
-  done_of _ _ (printed bytes lines p mid load is at saves) zero out = (bytes, lines, p, mid, load.holds, load.contents, is, at, saves, out)
+  done_of _ _ (printed bytes lines p x mid load is at run saves) zero out = (bytes, lines, p, x, mid, load.holds, load.contents, is, at, run, saves, out)
   done_of _ _ (refused bytes line cause load refuses) zero out = absurd (omega (arith, zero))
   done_of status text (blocks_says.not_loaded not) zero out = absurd (zero-or file files new_files status text not zero)
   done_of status text (blocks_says.not_saved bytes lines name mid asks load is not) zero out = absurd (zero-or-saved name mid new_files status text not zero)

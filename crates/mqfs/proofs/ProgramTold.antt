@@ -1,6 +1,6 @@
 -- What a text that there was to say tells of the files.
 use Rattle.std.proofs.Common.{◌≡◌, ◌≢◌, ◌≤◌, ◌⊎◌, inl, inr, ℕ, suc, Bool, cond, true, false, List, [], ◌∷◌, length, Option, Some, None, refl, sym, ◌∙◌, ap, subst, arith}
-use Rattle.std.specs.Prelude.{option_and_then}
+use Rattle.std.specs.Prelude.{option_and_then, unwrap_or}
 use Rattle.mq_command_images.specs.Commands.{Dumps, Formats, Lists, SaysNothing, SaysOfImage, ShowsFile, dumped, formatted, is_image, listed, no_file, no_geometry, no_image, not_dumped, not_listed, not_saved, not_shown, shown, wants_memory}
 use Rattle.mq_command_gen.specs.Generates.{Generates, SavesUnder, generated}
 use Rattle.mq_command_gen.specs.Generates as generates
@@ -180,10 +180,10 @@ told_gen w save old new _ _ (generates.wants_memory same) = memory save [] old n
 unrecovered : (x : DriveImage) (status : ℕ) (text : List ℕ) → RefusesRecovery x status text → (status ≡ 0) ⊎ (status ≡ 3)
 unrecovered x _ _ (not_recovered e unread) = inr refl
 
-told_recover : (cut : Option ℕ) (name : List ℕ) (old new : FilesState) (status : ℕ) (text : List ℕ) → Recovers cut name old new status text → Told (Some name) (name ∷ []) Nothing Nothing Nothing old new status
-told_recover cut name old new _ _ (recovered bytes x r mid load read of save) = told_saved (name ∷ []) name _ old mid new load.contents load.faults (one-load [] name old.taken mid.taken load.takes) save
-told_recover cut name old new status text (recovers.refused says) = told_image (SaysOfImage RefusesRecovery) (statuses RefusesRecovery unrecovered) (Some name) [] name old new status text says
-told_recover cut name old new status text (unsaved bytes mid load not) = told_not_saved (name ∷ []) name old mid new status text load.contents load.faults not
+told_recover : (cut : Option ℕ) (pick : ℕ) (name : List ℕ) (old new : FilesState) (status : ℕ) (text : List ℕ) → Recovers cut pick name old new status text → Told (Some name) (name ∷ []) Nothing Nothing Nothing old new status
+told_recover cut pick name old new _ _ (recovered bytes x r mid load read by save) = told_saved (name ∷ []) name _ old mid new load.contents load.faults (one-load [] name old.taken mid.taken load.takes) save
+told_recover cut pick name old new status text (recovers.refused says) = told_image (SaysOfImage RefusesRecovery) (statuses RefusesRecovery unrecovered) (Some name) [] name old new status text says
+told_recover cut pick name old new status text (unsaved bytes mid load not) = told_not_saved (name ∷ []) name old mid new status text load.contents load.faults not
 
 -- ---- `blocks`
 
@@ -195,13 +195,13 @@ BadText file old text = (bytes : List ℕ) × (line : ℕ) × (cause : BlockText
 weaker : (saves : Option (List ℕ)) (loads : List (List ℕ)) (Bad Ended : Type 0) (old new : FilesState) (status : ℕ) → Told saves loads Nothing Nothing Nothing old new status → Told saves loads Nothing Bad Ended old new status
 weaker saves loads Bad Ended old new status t = record { is = t.is; names = t.names; contents = t.contents; faults = t.faults; fault = t.fault; takes = t.takes; usage = t.usage; bad = λ e. absurd (t.bad e); ended = λ e. absurd (t.ended e) }
 
-told_left : (save : Option (List ℕ)) (file bytes : List ℕ) (lines : List (List BlockItem)) (cut : Option ℕ) (p : ℕ) (old mid new : FilesState) → IsLoaded file bytes old mid → SavesLeft save lines cut p mid new → Told save (file ∷ []) Nothing Nothing Nothing old new 0
-told_left None file bytes lines cut p old mid new load same =
+told_left : (save : Option (List ℕ)) (file bytes : List ℕ) (x : DriveImage) (old mid new : FilesState) → IsLoaded file bytes old mid → SavesLeft save x mid new → Told save (file ∷ []) Nothing Nothing Nothing old new 0
+told_left None file bytes x old mid new load same =
     done None (file ∷ []) old new (ap (λ (f : FilesState). f.contents) same ∙ load.contents) (ap (λ (f : FilesState). f.faults) same ∙ load.faults) (subst (λ (f : FilesState). TakesUpTo 1 old.taken f.taken) (sym same) (one-load [] file old.taken mid.taken load.takes))
-told_left (Some name) file bytes lines cut p old mid new load saves = told_saved (file ∷ []) name _ old mid new load.contents load.faults (one-load [] file old.taken mid.taken load.takes) saves.2
+told_left (Some name) file bytes x old mid new load saves = told_saved (file ∷ []) name _ old mid new load.contents load.faults (one-load [] file old.taken mid.taken load.takes) saves
 
 told_blocks : (file : List ℕ) (options : BlocksOptions) (save : Option (List ℕ)) (old new : FilesState) (status : ℕ) (text : List ℕ) → SaysOfBlocks file options save old new status text → Told save (file ∷ []) Nothing (BadText file old text) Nothing old new status
-told_blocks file options save old new _ _ (printed bytes lines p mid load is at saves) = weaker save (file ∷ []) _ _ old new 0 (told_left save file bytes lines options.cut p old mid new load saves)
+told_blocks file options save old new _ _ (printed bytes lines p x mid load is at run saves) = weaker save (file ∷ []) _ _ old new 0 (told_left save file bytes x old mid new load saves)
 told_blocks file options save old new _ _ (refused bytes line cause load refuses) = record {
   is = inr (inr (inl refl));
   names = keeps save old new load.contents;
@@ -415,7 +415,7 @@ told : (a : Asked) (old new : FilesState) (status : ℕ) (text : List ℕ) → S
 told (blocks file options save) old new status text says = told_blocks file options save old new status text says
 told (format image queues area meta zone) old new status text says = told_format (numbers queues area meta zone) image old new status text says
 told (run image scripts options) old new status text says = told_run (run_options options) image scripts old new status text says
-told (recover image cut pick) old new status text says = told_recover cut image old new status text says
+told (recover image cut pick) old new status text says = told_recover cut (unwrap_or pick 0) image old new status text says
 told (ls image) old new status text says = told_image (SaysOfImage Lists) (statuses Lists lists) None [] image old new status text says
 told (cat image path) old new status text says = told_image (SaysOfImage (ShowsFile path)) (statuses (ShowsFile path) (shows path)) None [] image old new status text says
 told (gen seed threads groups save) old new status text says = told_gen (asked_workload seed threads groups) save old new status text says

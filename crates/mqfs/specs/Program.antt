@@ -2,6 +2,7 @@
 use Rattle.std.specs.Prelude.{◌≡◌, ◌⊎◌, ◌≤◌, ℕ, ◌+◌, ◌*◌, List, [], ◌∷◌, length, Option, Some, None, codes, option_and_then}
 use Rattle.mq_command_run.specs.RunsScripts.{Runs}
 use Rattle.mq_command_io.specs.Ending.{TakesOver, memory_line}
+use Rattle.mq_image.specs.File.{DriveImage}
 use Rattle.mq_outside.specs.Outside.{FilesState, Holds, HoldsOver, OthersSame, SinkState, appended, load_limit}
 use Rattle.mq_block_text.specs.Refusals.{RefusesText}
 use Rattle.mq_block_text.specs.declared.item.BlockItem.{BlockItem}
@@ -9,6 +10,7 @@ use Rattle.mq_block_text.specs.declared.refusal.BlockTextCause.{BlockTextCause}
 use Rattle.mq_command_blocks.specs.Blocks.{IsBlockText, output_of, refused_line}
 use Rattle.mq_command_blocks.specs.Cuts.{IsPrefixAt}
 use Rattle.mq_command_blocks.specs.Left.{SavesLeft}
+use Rattle.mq_command_blocks.specs.Picked.{IsRunBy, pick_of}
 use Rattle.mq_cli.specs.Asked.{Asked, Words, asked_of, blocks, cat, dump, format, gen, help, ls, recover, run, version}
 use Rattle.mq_cli.specs.declared.command.BlocksOptions.{BlocksOptions}
 use Rattle.mq_cli.specs.declared.command.RunFlags.{RunFlags}
@@ -41,15 +43,16 @@ IsSaid words files new_files old new status =
     (text : List ℕ) × IsToSay words files new_files status text
     × (new.contents ≡ appended old.contents text)
 
--- The file held a block text. What was said is the output of the lines that stand after the cut, and the
--- image that the cut left is saved where a name for it is given.
+-- The file held a block text. What was said is the output of the lines that stand after the cut, on the image
+-- that the pick chose, which is saved where a name for it is given.
 abbrev pub IsDone : (file : List ℕ) → BlocksOptions → (save : Option (List ℕ))
     → (files new_files : FilesState) → (old new : SinkState) → Type 0
 IsDone file options save files new_files old new =
-    (bytes : List ℕ) × (lines : List (List BlockItem)) × (p : ℕ) × (loaded : FilesState)
+    (bytes : List ℕ) × (lines : List (List BlockItem)) × (p : ℕ) × (x : DriveImage)
+    × (loaded : FilesState)
     × Holds files.contents file bytes × (loaded.contents ≡ files.contents) × IsBlockText bytes lines
     × IsPrefixAt lines options.cut p
-    × SavesLeft save lines options.cut p loaded new_files
+    × IsRunBy lines options.cut options.again (pick_of options) p x × SavesLeft save x loaded new_files
     × (new.contents ≡ appended old.contents (output_of lines p))
 
 -- The words are those of `blocks`, and the file holds bytes that are refused. The line of that was said.

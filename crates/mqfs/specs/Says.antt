@@ -41,7 +41,8 @@ Says (format image queues area meta zone) old new status text =
     Formats (numbers queues area meta zone) image old new status text
 Says (run image scripts options) old new status text =
     Runs (run_options options) image scripts old new status text
-Says (recover image cut pick) old new status text = Recovers cut image old new status text
+Says (recover image cut pick) old new status text =
+    Recovers cut (unwrap_or pick 0) image old new status text
 Says (ls image) old new status text = SaysOf (SaysOfImage Lists) image old new status text
 Says (cat image path) old new status text = SaysOf (SaysOfImage (ShowsFile path)) image old new status text
 Says (gen seed threads groups save) old new status text =

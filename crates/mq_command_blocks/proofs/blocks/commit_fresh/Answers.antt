@@ -21,8 +21,8 @@ close-requires-clause-all c =
     let ports = c.in_ok-fuse.ensures.fuse.1 in
     omega (arith, long, one, ports)
 
-pub returns : goal.returns
-returns c =
+pub returns-clause-stands : goal.returns-clause-stands
+returns-clause-stands c =
     let lines = c.args.text.now in
     let cut = c.args.cut in
     let t = c.in_ok-left.ensures.stands in
@@ -32,3 +32,11 @@ returns c =
     let stands : StandsUnder lines cut (tickets_of t.queue_seat) t.queue.doorbell t.p = subst (λ (o : Option ℕ). StandsUnder lines o (tickets_of t.queue_seat) t.queue.doorbell t.p) limit t.stands in
     let left = is_left lines cut t.p c.args.geometry t.queue t.root c.requires.geometry t.queue_image t.root_image t.shows (doorbell_under lines cut (tickets_of t.queue_seat) t.queue.doorbell t.p c.close.result stands closed) in
     (t.p, prefix_stand lines cut (tickets_of t.queue_seat) t.queue.doorbell t.p c.close.result stands closed, subst (λ (l : List PortImage). IsLeft lines cut t.p (record { geometry = c.args.geometry; ports = l })) (sym t.images_are) left)
+
+pub returns-clause-chosen : goal.returns-clause-chosen
+returns-clause-chosen c = record {
+  fuse = name_of c.in_ok-fuse.fuse;
+  power = c.in_ok-fuse.ensures.fuse.0;
+  seats = c.in_ok-left.left.seats.items;
+  picked = c.in_ok-left.ensures.chosen;
+}

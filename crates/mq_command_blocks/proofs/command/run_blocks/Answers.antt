@@ -19,7 +19,7 @@ returns-in-Ok-run_bytes-clause-ends g c =
     let ok = c.in-Ok-run_bytes.ensures.ok in
     let load = subst (λ (l : List ℕ). IsLoaded c.args.file.now l (files c.args.files.now) (files c.load_or_say.new.files)) (sym c.deref.ensures.value) c.in-Ok.ensures.ok in
     ran c.args.file.now c.args.options (option_map (λ (s : Bor (List ℕ)). s.now) c.args.save) c.deref.result.now (files c.args.files.now) (files c.load_or_say.new.files) (files c.finish.new.files) c.finish.result (sink c.args.out.now) (sink c.load_or_say.new.out) (sink c.finish.new.out)
-    load c.in-Ok.ensures.silent ok.0 ok.1 c.in-Ok-run_bytes.run'.left c.in-Ok-run_bytes.run'.output.items c.is_some.result ok.2 ok.3 ok.4 ok.5 (c.is_some.ensures ∙ sym (some_map (λ (s : Bor (List ℕ)). s.now) c.args.save)) c.finish.ensures
+    load c.in-Ok.ensures.silent ok.0 ok.1 ok.2 c.in-Ok-run_bytes.run'.left c.in-Ok-run_bytes.run'.output.items c.is_some.result ok.3 ok.4 ok.5 ok.6 ok.7 (c.is_some.ensures ∙ sym (some_map (λ (s : Bor (List ℕ)). s.now) c.args.save)) c.finish.ensures
 
 pub returns-in-Ok-run_bytes-clause-decided : goal.returns-in-Ok-run_bytes-clause-decided
 returns-in-Ok-run_bytes-clause-decided g c = λ wanted decides.

@@ -15,7 +15,7 @@ use Rattle.mq_command_images.proofs.recovering.recover_bytes.Goals as goal
 
 pub returns-in-Ok-clause-ok : goal.returns-in-Ok-clause-ok
 returns-in-Ok-clause-ok c =
-    IfOk-weaker c.recover_drive.result (λ (v : Recovery). IsRecoveredAs c.in-Ok.image c.args.cut v.file.items v.text.items) (λ (v : Recovery). (x : DriveImage) × IsRead x c.args.bytes.items × IsRecoveredAs x c.args.cut v.file.items v.text.items) (λ v is. (c.in-Ok.image, subst (IsRead c.in-Ok.image) c.deref.ensures.value c.in-Ok.ensures.sound, is))
+    IfOk-weaker c.recover_drive.result (λ (v : Recovery). IsRecoveredAs c.in-Ok.image c.args.cut c.args.pick v.file.items v.text.items) (λ (v : Recovery). (x : DriveImage) × IsRead x c.args.bytes.items × IsRecoveredAs x c.args.cut c.args.pick v.file.items v.text.items) (λ v is. (c.in-Ok.image, subst (IsRead c.in-Ok.image) c.deref.ensures.value c.in-Ok.ensures.sound, is))
     c.recover_drive.ensures.ok
 
 pub returns-in-Ok-clause-refused : goal.returns-in-Ok-clause-refused
