@@ -1,4 +1,4 @@
 pub mod AlikeDrives
 pub mod AlikeQueues
 pub mod OldFiles
-pub mod Rest
+pub mod RestLeft

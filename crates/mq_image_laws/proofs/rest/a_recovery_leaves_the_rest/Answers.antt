@@ -1,4 +1,4 @@
-use Rattle.mq_image_laws.proofs.Rest.{leaves-rest}
+use Rattle.mq_image_laws.proofs.RestLeft.{leaves-rest}
 use Rattle.mq_image_laws.proofs.rest.a_recovery_leaves_the_rest.Goals as goal
 
 pub returns : goal.returns

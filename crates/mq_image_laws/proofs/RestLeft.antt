@@ -1,5 +1,5 @@
 -- What a recovery of an image leaves as it was.
-use Rattle.std.proofs.Common.{◌≡◌, ◌<◌, ◌+◌, ◌⊎◌, inl, inr, ⊎_elim, ℕ, true, false, List, [], length, take, Option, None, refl, sym, ◌∙◌, ap, subst, arith}
+use Rattle.std.proofs.Common.{◌≡◌, ◌<◌, ◌+◌, ◌⊎◌, inl, inr, ⊎_elim, ℕ, true, false, List, [], length, take, Option, None, sym, ◌∙◌, ap, subst, arith}
 use Rattle.std.proofs.lemmas.List.{ext_get_or, take_all}
 use Rattle.std.specs.Prelude.{Bool, Some, is_none}
 use Rattle.mq_blocks.specs.Blocks.{block_at}
@@ -10,8 +10,6 @@ use Rattle.mq_blocks.specs.Journal.{Shown, image_at, or_else, shown}
 use Rattle.mq_blocks.specs.Machine.{Writes}
 use Rattle.mq_blocks.specs.declared.geometry.Geometry.{Geometry}
 use Rattle.mq_drive.specs.Emu.{emu_faults, emu_state}
-use Rattle.mq_drive.specs.declared.emu.EmuPort.{EmuPort}
-use Rattle.mq_drive.specs.declared.port.Ports.{Ports}
 use Rattle.mq_image.specs.Drives.{IsDrive}
 use Rattle.mq_image.specs.File.{DriveImage, queue_ports, root_port}
 use Rattle.mq_image_ops.specs.Cuts.{HasRun, IsPicked, IsPickedRecovery, with_ports}
@@ -30,7 +28,7 @@ use Rattle.mq_recover.specs.RecoverHomes.{written}
 use Rattle.mq_recover.specs.Recovery.{IsReadPrefix}
 use Rattle.mq_recover.specs.declared.choice.Recovered.{Recovered}
 use Rattle.mq_recover.proofs.DrivesImages.{read-same}
-use Rattle.mq_recover.proofs.DrivesStages.{AreHeadsMoving, AreKept, IsHeadMoving, IsStage, IsSure, apart-none}
+use Rattle.mq_recover.proofs.DrivesStages.{AreHeadsMoving, AreKept, IsStage, IsSure, apart-none}
 use Rattle.mq_recover.proofs.DrivesZones.{IsZone, home-in, home_in, image-at, image_in, images-in, placed-at, port_in, still-in, still-ports, view-home, zone-is}
 use Rattle.mq_recover.proofs.RecoveringDrives.{writes-below}
 use Rattle.mq_recover.proofs.StepsCuts.{each-stage}
