@@ -24,11 +24,7 @@ use mq_outside::{Files, Sink};
 use std::alloc::Global;
 
 // What `check` says of the home blocks that stand.
-fn judge(
-    alloc: Global,
-    geometry: Geometry,
-    blocks: &[Option<Block>],
-) -> Result<Answer, OutOfMemory>
+fn judge(alloc: Global, geometry: Geometry, blocks: &[Option<Block>]) -> Result<Answer, OutOfMemory>
     ensures { IfOk result (λ a. (verdict : Verdict)
         × Judges geometry blocks.now verdict
         × (a.status ≡ 0)

@@ -11,10 +11,7 @@ use std::alloc::Global;
 
 /// What stands on the home blocks of an image. The image is recovered in memory, without a cut, and its home
 /// blocks are taken out of what that leaves. An absent block is zeros.
-pub fn standing_blocks(
-    alloc: Global,
-    image: DriveImage,
-) -> Result<Vec<Option<Block>>, ImageFault>
+pub fn standing_blocks(alloc: Global, image: DriveImage) -> Result<Vec<Option<Block>>, ImageFault>
     requires { IsDrive image }
     ensures ok { IfOk result (λ blocks. IsStandingOf image blocks.items) }
     ensures refused { IfErr result (λ e. (e ≡ ImageFault.OutOfMemory) ⊎ RefusesDrive image e) }
