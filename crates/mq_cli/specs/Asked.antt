@@ -27,6 +27,7 @@ pub data Asked : Type 0 where
   cat : (image : Text) → Path → Asked
   gen : (seed threads groups : ℕ) → (save : Option Text) → Asked
   dump : (image : Text) → Asked
+  check : (image : Text) → Asked
   help : Option Verb → Asked
   version : Asked
 
@@ -154,6 +155,7 @@ asked_by verb.Gen rows = gen_by (number_from 0 number_end (first_of (codes "seed
     (number_from 0 groups_end (first_of (codes "groups") rows))
     (first_of (codes "save") rows)
 asked_by verb.Dump rows = option_map dump (first_of (codes "image") rows)
+asked_by verb.Check rows = option_map check (first_of (codes "image") rows)
 
 -- ---- what words ask
 
@@ -198,6 +200,7 @@ asked (command.Ls image) = ls image.now
 asked (command.Cat image path) = cat image.now path
 asked (command.Gen seed threads groups save) = gen seed threads groups (option_map (λ s. s.now) save)
 asked (command.Dump image) = dump image.now
+asked (command.Check image) = check image.now
 asked (command.Help verb) = help verb
 asked command.Version = version
 

@@ -13,8 +13,9 @@ program_help =
     ++ (codes "  mqfs ls IMAGE\n"
     ++ (codes "  mqfs cat IMAGE PATH\n"
     ++ (codes "  mqfs gen SEED THREADS GROUPS [--save NAME]\n"
-    ++ (codes "  mqfs dump IMAGE\n\n"
-    ++ (codes "mqfs COMMAND --help says more of a command.\n")))))))))
+    ++ (codes "  mqfs dump IMAGE\n"
+    ++ (codes "  mqfs check IMAGE\n\n"
+    ++ (codes "mqfs COMMAND --help says more of a command.\n"))))))))))
 
 unfoldable pub blocks_help : List ℕ
 blocks_help =
@@ -83,6 +84,14 @@ dump_help =
     ++ (codes "stand. Nothing is saved.\n\n"
     ++ (codes "Example: mqfs dump d\n")))
 
+unfoldable pub check_help : List ℕ
+check_help =
+    codes "mqfs check IMAGE\n\n"
+    ++ (codes "Checks the home blocks that stand on IMAGE: prints how many directories, files\n"
+    ++ (codes "and blocks their file system has, or what is wrong with it first. Nothing is\n"
+    ++ (codes "saved.\n\n"
+    ++ (codes "Example: mqfs check d\n"))))
+
 abbrev pub help_text : Option Verb → List ℕ
 help_text None = program_help
 help_text (Some verb.Blocks) = blocks_help
@@ -93,6 +102,7 @@ help_text (Some verb.Ls) = ls_help
 help_text (Some verb.Cat) = cat_help
 help_text (Some verb.Gen) = gen_help
 help_text (Some verb.Dump) = dump_help
+help_text (Some verb.Check) = check_help
 
 abbrev pub version_line : List ℕ
 version_line = codes "mqfs 0.1.0\n"

@@ -4,7 +4,7 @@ use Rattle.clap.specs.Words.{App, Rule, Text, new_rule}
 use Rattle.clap.specs.Simple.{new_shape}
 use Rattle.clap.specs.declared.builder.action.ArgAction.TheVariants as action
 use Rattle.mq_cli.specs.declared.verb.Verb.{Verb}
-use Rattle.mq_cli.specs.declared.verb.Verb.TheVariants.{Blocks, Format, Run, Recover, Ls, Cat, Gen, Dump}
+use Rattle.mq_cli.specs.declared.verb.Verb.TheVariants.{Blocks, Format, Run, Recover, Ls, Cat, Gen, Dump, Check}
 
 -- ---- the commands by name
 
@@ -17,6 +17,7 @@ verb_text Ls = codes "ls"
 verb_text Cat = codes "cat"
 verb_text Gen = codes "gen"
 verb_text Dump = codes "dump"
+verb_text Check = codes "check"
 
 abbrev pub verb_of : Text → Option Verb
 verb_of word =
@@ -28,6 +29,7 @@ verb_of word =
     else if bytes_eq word (codes "cat") then Some Cat
     else if bytes_eq word (codes "gen") then Some Gen
     else if bytes_eq word (codes "dump") then Some Dump
+    else if bytes_eq word (codes "check") then Some Check
     else None
 
 -- ---- their words
@@ -42,6 +44,7 @@ names_for Ls = codes "image" ∷ []
 names_for Cat = codes "image" ∷ codes "path" ∷ []
 names_for Gen = codes "seed" ∷ codes "threads" ∷ codes "groups" ∷ []
 names_for Dump = codes "image" ∷ []
+names_for Check = codes "image" ∷ []
 
 -- the name behind these of which it wants one or more words, where it has one
 abbrev pub repeated_for : Verb → Option Text
@@ -53,6 +56,7 @@ repeated_for Ls = None
 repeated_for Cat = None
 repeated_for Gen = None
 repeated_for Dump = None
+repeated_for Check = None
 
 -- the options that it takes, each with a value
 abbrev pub options_for : Verb → List Text
@@ -64,6 +68,7 @@ options_for Ls = []
 options_for Cat = []
 options_for Gen = codes "save" ∷ []
 options_for Dump = []
+options_for Check = []
 
 -- a name, which has to stand as one word
 abbrev pub name_rule : Text → Rule

@@ -82,6 +82,9 @@ pub enum Command<'a> {
     Dump {
         image: &'a str,
     },
+    Check {
+        image: &'a str,
+    },
     /// Help on a command, or on the program.
     Help(Option<Verb>),
     Version,

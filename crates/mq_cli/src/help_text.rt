@@ -1,6 +1,6 @@
 // What the program says of itself and of each command.
 ghost use Rattle.std.specs.Prelude.{◌≡◌};
-ghost use Rattle.mq_cli.specs.Help.{blocks_help, cat_help, dump_help, format_help, gen_help, help_text, ls_help, program_help, recover_help, run_help, version_line as version_text};
+ghost use Rattle.mq_cli.specs.Help.{blocks_help, cat_help, check_help, dump_help, format_help, gen_help, help_text, ls_help, program_help, recover_help, run_help, version_line as version_text};
 
 use crate::verb::Verb;
 
@@ -18,6 +18,7 @@ fn program_text() -> &'static str
   mqfs cat IMAGE PATH
   mqfs gen SEED THREADS GROUPS [--save NAME]
   mqfs dump IMAGE
+  mqfs check IMAGE
 
 mqfs COMMAND --help says more of a command.
 "
@@ -142,6 +143,20 @@ Example: mqfs dump d
 "
 }
 
+#[tactic(auto, unfolding(crate::specs::Help::check_help))]
+fn check_text() -> &'static str
+    ensures { result.now ≡ check_help }
+{
+    "mqfs check IMAGE
+
+Checks the home blocks that stand on IMAGE: prints how many directories, files
+and blocks their file system has, or what is wrong with it first. Nothing is
+saved.
+
+Example: mqfs check d
+"
+}
+
 /// The help on a command, or on the program.
 pub fn help_on(topic: Option<Verb>) -> &'static str
     ensures { result.now ≡ help_text topic }
@@ -156,6 +171,7 @@ pub fn help_on(topic: Option<Verb>) -> &'static str
         Some(Verb::Cat) => cat_text(),
         Some(Verb::Gen) => gen_text(),
         Some(Verb::Dump) => dump_text(),
+        Some(Verb::Check) => check_text(),
     }
 }
 

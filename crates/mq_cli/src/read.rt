@@ -234,6 +234,10 @@ fn command_of<'a>(
             let image = name(matches, "image")?;
             Ok(Command::Dump { image })
         }
+        Verb::Check => {
+            let image = name(matches, "image")?;
+            Ok(Command::Check { image })
+        }
     }
 }
 

@@ -17,6 +17,7 @@ pub fn names<'a>(verb: Verb) -> &'a [&'a str]
         Verb::Cat => &["image", "path"],
         Verb::Gen => &["seed", "threads", "groups"],
         Verb::Dump => &["image"],
+        Verb::Check => &["image"],
     }
 }
 
@@ -32,7 +33,8 @@ pub fn repeated<'a>(verb: Verb) -> Option<&'a str>
         | Verb::Ls
         | Verb::Cat
         | Verb::Gen
-        | Verb::Dump => None,
+        | Verb::Dump
+        | Verb::Check => None,
     }
 }
 
@@ -45,6 +47,6 @@ pub fn options<'a>(verb: Verb) -> &'a [&'a str]
         Verb::Run => &["cut", "pick", "fail"],
         Verb::Recover => &["cut", "pick"],
         Verb::Gen => &["save"],
-        Verb::Format | Verb::Ls | Verb::Cat | Verb::Dump => &[],
+        Verb::Format | Verb::Ls | Verb::Cat | Verb::Dump | Verb::Check => &[],
     }
 }

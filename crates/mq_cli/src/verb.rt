@@ -13,6 +13,7 @@ pub enum Verb {
     Cat,
     Gen,
     Dump,
+    Check,
 }
 
 impl Verb {
@@ -29,6 +30,7 @@ impl Verb {
             Verb::Cat => "cat",
             Verb::Gen => "gen",
             Verb::Dump => "dump",
+            Verb::Check => "check",
         }
     }
 }
@@ -46,6 +48,7 @@ pub fn read_verb(word: &str) -> Option<Verb>
         "cat" => Some(Verb::Cat),
         "gen" => Some(Verb::Gen),
         "dump" => Some(Verb::Dump),
+        "check" => Some(Verb::Check),
         _ => None,
     }
 }

@@ -95,7 +95,8 @@ ends-where Of name bytes wanted old new before after result ends tells each = sa
 pub refused-where : (Of : DriveImage → ℕ → List ℕ → Type 0) (name bytes : List ℕ) (e : FileFault) (old new : FilesState) (before after : SinkState) (result : ℕ) → Ends (SaysOfImage Of) name old new before after result → Tells old.contents name (Some bytes) → HasFault bytes (Some e) → IsUnlessFailed 3 result
 refused-where Of name bytes e old new before after result ends tells has = ends-where (SaysOfImage Of) name bytes 3 old new before after result ends tells (refused-status Of bytes e has)
 
-image-where : (Of : DriveImage → ℕ → List ℕ → Type 0) (name bytes : List ℕ) (x : DriveImage) (wanted : ℕ) (old new : FilesState) (before after : SinkState) (result : ℕ) → Ends (SaysOfImage Of) name old new before after result → Tells old.contents name (Some bytes) → IsRead x bytes → ((s : ℕ) (t : List ℕ) → Of x s t → s ≡ wanted) → IsUnlessFailed wanted result
+-- an image of which all that there is to say has one status
+pub image-where : (Of : DriveImage → ℕ → List ℕ → Type 0) (name bytes : List ℕ) (x : DriveImage) (wanted : ℕ) (old new : FilesState) (before after : SinkState) (result : ℕ) → Ends (SaysOfImage Of) name old new before after result → Tells old.contents name (Some bytes) → IsRead x bytes → ((s : ℕ) (t : List ℕ) → Of x s t → s ≡ wanted) → IsUnlessFailed wanted result
 image-where Of name bytes x wanted old new before after result ends tells read each = ends-where (SaysOfImage Of) name bytes wanted old new before after result ends tells (of-image Of bytes x wanted read each)
 
 pub listed-where : (name bytes : List ℕ) (x : DriveImage) (v : Volume) (old new : FilesState) (before after : SinkState) (result : ℕ) → Ends (SaysOfImage Lists) name old new before after result → Tells old.contents name (Some bytes) → IsRead x bytes → StandsFor x v → IsUnlessFailed 0 result

@@ -10,9 +10,10 @@ mod loading;
 mod names;
 mod recovering;
 
-pub use answer::{Answer, refuse_volume, say_answer};
+pub use answer::{Answer, refuse_drive, refuse_volume, say_answer};
 pub use dumping::dump;
 pub use formatting::{Numbers, format};
 pub use listing::{cat, ls};
 pub use loading::load_image;
+pub use names::name_of_corrupt;
 pub use recovering::recover;

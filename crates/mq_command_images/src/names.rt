@@ -34,6 +34,7 @@ pub fn name_of_descriptor(cause: DescriptorRefusal) -> &'static str
     }
 }
 
+/// The name of what is wrong at a block.
 pub fn name_of_corrupt(cause: CorruptCause) -> &'static str
     ensures { result.now ≡ corrupt_name cause }
 {

@@ -25,7 +25,7 @@ use Rattle.mq_tree.specs.Trees.{ReadsAs}
 use Rattle.mq_tree.specs.Volume.{Path, Volume}
 use Rattle.mq_tree.specs.declared.request.Fault.{Fault}
 use Rattle.mq_cli.specs.declared.command.RunFlags.{RunFlags}
-use Rattle.mqfs.specs.Decided.{ChainsDecide, FileDecides, ImageDecides, IsRunnable, NumbersDecide, RecoveryDecides, RunDecides, TreeDecides, VolumeDecides, above_limit, bad_numbers, bad_script, good_numbers, has_chains, has_file, has_no_file, has_standing, has_tree, is_no_image, no_chains, no_drive, no_image, no_standing, no_tree, no_volume, no_volume_there, none_stands, runs_whole, too_many, unreadable}
+use Rattle.mqfs.specs.Decided.{ChainsDecide, FileDecides, ImageDecides, IsRunnable, NumbersDecide, RunDecides, StandingDecides, TreeDecides, VolumeDecides, above_limit, bad_numbers, bad_script, good_numbers, has_chains, has_file, has_no_file, has_standing, has_tree, is_no_image, no_chains, no_drive, no_image, no_standing, no_tree, no_volume, no_volume_there, none_stands, runs_whole, too_many, unreadable}
 use Rattle.mqfs.specs.Says.{failing, run_options}
 
 -- ---- `format`
@@ -44,10 +44,10 @@ module _ (image : List ℕ) (held : Option Held) (result : ℕ)
   image_decided _ (no_image bytes e tells has) = faulty bytes e tells has
   image_decided _ (unreadable bytes x e tells read refuses) = unread bytes x e tells read refuses
 
-  pub recovery_decided : ((bytes : List ℕ) (x : DriveImage) (ds : List Descriptor) (top : ℕ) → Tells held image (Some bytes) → IsRead x bytes → Reads x ds top → IsUnlessFailed 0 result)
-      → (status : ℕ) → RecoveryDecides image held status → IsUnlessFailed status result
-  recovery_decided done _ (has_standing bytes x ds top tells read reads) = done bytes x ds top tells read reads
-  recovery_decided done status (no_standing image) = image_decided status image
+  pub standing_decided : ((bytes : List ℕ) (x : DriveImage) (ds : List Descriptor) (top : ℕ) → Tells held image (Some bytes) → IsRead x bytes → Reads x ds top → IsUnlessFailed 0 result)
+      → (status : ℕ) → StandingDecides image held status → IsUnlessFailed status result
+  standing_decided done _ (has_standing bytes x ds top tells read reads) = done bytes x ds top tells read reads
+  standing_decided done status (no_standing image) = image_decided status image
 
   pub chains_decided : ((bytes : List ℕ) (x : DriveImage) (chains : ℕ → List Descriptor) → Tells held image (Some bytes) → IsRead x bytes → AreWhole x.geometry (view_of x) chains → IsUnlessFailed 0 result)
       → (status : ℕ) → ChainsDecide image held status → IsUnlessFailed status result

@@ -1,6 +1,7 @@
 -- What a text that there was to say tells of the files.
 use Rattle.std.proofs.Common.{◌≡◌, ◌≢◌, ◌≤◌, ◌⊎◌, inl, inr, ℕ, suc, Bool, cond, true, false, List, [], ◌∷◌, length, Option, Some, None, refl, sym, ◌∙◌, ap, subst, arith}
 use Rattle.std.specs.Prelude.{option_and_then, unwrap_or}
+use Rattle.mq_command_check.specs.Checks.{Checks, checked, not_checked}
 use Rattle.mq_command_images.specs.Commands.{Dumps, Formats, Lists, SaysNothing, SaysOfImage, ShowsFile, dumped, formatted, is_image, listed, no_file, no_geometry, no_image, not_dumped, not_listed, not_saved, not_shown, shown, wants_memory}
 use Rattle.mq_command_gen.specs.Generates.{Generates, SavesUnder, generated}
 use Rattle.mq_command_gen.specs.Generates as generates
@@ -22,7 +23,7 @@ use Rattle.mq_command_blocks.specs.Left.{SavesLeft}
 use Rattle.mq_command_blocks.specs.SaysOfBlocks.{SaysOfBlocks, printed, refused}
 use Rattle.mq_command_blocks.specs.SaysOfBlocks as blocks_says
 use Rattle.mq_tree.specs.Volume.{Path}
-use Rattle.mq_cli.specs.Asked.{Asked, Words, asked_of, blocks, cat, dump, format, gen, help, ls, recover, run, version}
+use Rattle.mq_cli.specs.Asked.{Asked, Words, asked_of, blocks, cat, check, dump, format, gen, help, ls, recover, run, version}
 use Rattle.mq_cli.specs.declared.command.BlocksOptions.{BlocksOptions}
 use Rattle.mq_cli.specs.declared.command.RunFlags.{RunFlags}
 use Rattle.mqfs.specs.Program.{AreUnknown, HoldsTooMuch, IsStatus, IsToSay, KeepsOthers, TakesUpTo, loaded_by, loaded_names, no_command, no_memory, of_command, saved_name, usage_line}
@@ -132,6 +133,10 @@ shows path x _ _ (not_shown e refuses other) = inr refl
 dumps : (x : DriveImage) (status : ℕ) (text : List ℕ) → Dumps x status text → (status ≡ 0) ⊎ (status ≡ 3)
 dumps x _ _ (dumped text is) = inl refl
 dumps x _ _ (not_dumped e refuses) = inr refl
+
+checks : (x : DriveImage) (status : ℕ) (text : List ℕ) → Checks x status text → (status ≡ 0) ⊎ (status ≡ 3)
+checks x _ _ (checked stored verdict stands judges) = inl refl
+checks x _ _ (not_checked e refuses) = inr refl
 
 -- ---- `format`
 
@@ -403,6 +408,7 @@ BadOf (ls image) old new text = Nothing
 BadOf (cat image path) old new text = Nothing
 BadOf (gen seed threads groups save) old new text = Nothing
 BadOf (dump image) old new text = Nothing
+BadOf (check image) old new text = Nothing
 BadOf (help topic) old new text = Nothing
 BadOf version old new text = Nothing
 
@@ -420,6 +426,7 @@ told (ls image) old new status text says = told_image (SaysOfImage Lists) (statu
 told (cat image path) old new status text says = told_image (SaysOfImage (ShowsFile path)) (statuses (ShowsFile path) (shows path)) None [] image old new status text says
 told (gen seed threads groups save) old new status text says = told_gen (asked_workload seed threads groups) save old new status text says
 told (dump image) old new status text says = told_image (SaysOfImage Dumps) (statuses Dumps dumps) None [] image old new status text says
+told (check image) old new status text says = told_image (SaysOfImage Checks) (statuses Checks checks) None [] image old new status text says
 told (help topic) old new status text says = told_only _ old new status text says
 told version old new status text says = told_only _ old new status text says
 
@@ -451,6 +458,7 @@ bad_words words (ls image) old new text is bad = absurd bad
 bad_words words (cat image path) old new text is bad = absurd bad
 bad_words words (gen seed threads groups save) old new text is bad = absurd bad
 bad_words words (dump image) old new text is bad = absurd bad
+bad_words words (check image) old new text is bad = absurd bad
 bad_words words (help topic) old new text is bad = absurd bad
 bad_words words version old new text is bad = absurd bad
 
@@ -463,6 +471,7 @@ ended_words words (ls image) old new text is ended = absurd ended
 ended_words words (cat image path) old new text is ended = absurd ended
 ended_words words (gen seed threads groups save) old new text is ended = absurd ended
 ended_words words (dump image) old new text is ended = absurd ended
+ended_words words (check image) old new text is ended = absurd ended
 ended_words words (help topic) old new text is ended = absurd ended
 ended_words words version old new text is ended = absurd ended
 

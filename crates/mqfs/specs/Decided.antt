@@ -23,7 +23,7 @@ use Rattle.mq_command_blocks.specs.SaysOfBlocks.{TextDecides}
 use Rattle.mq_tree.specs.Trees.{ReadsAs}
 use Rattle.mq_tree.specs.Volume.{Path, Volume}
 use Rattle.mq_tree.specs.declared.request.Fault.{Fault}
-use Rattle.mq_cli.specs.Asked.{Asked, blocks, cat, dump, format, gen, help, ls, recover, run, version}
+use Rattle.mq_cli.specs.Asked.{Asked, blocks, cat, check, dump, format, gen, help, ls, recover, run, version}
 use Rattle.mq_cli.specs.declared.command.RunFlags.{RunFlags}
 use Rattle.mqfs.specs.Says.{numbers}
 
@@ -82,11 +82,11 @@ pub data RunDecides (image : List ℕ) (names : List (List ℕ)) (options : RunF
       → Reads x ds top → IsFirstAbove x top n → RunDecides image names options held 3
   runs_whole : IsRunnable image names held → options.fail ≡ None → RunDecides image names options held 0
 
--- `recover`: the image is readable
-pub data RecoveryDecides (image : List ℕ) (held : Option Held) : ℕ → Type 0 where
+-- `recover` and `check`: the image is readable
+pub data StandingDecides (image : List ℕ) (held : Option Held) : ℕ → Type 0 where
   has_standing : (bytes : List ℕ) (x : DriveImage) (ds : List Descriptor) (top : ℕ)
-      → Tells held image (Some bytes) → IsRead x bytes → Reads x ds top → RecoveryDecides image held 0
-  no_standing : {status : ℕ} → ImageDecides image held status → RecoveryDecides image held status
+      → Tells held image (Some bytes) → IsRead x bytes → Reads x ds top → StandingDecides image held 0
+  no_standing : {status : ℕ} → ImageDecides image held status → StandingDecides image held status
 
 -- `ls`: a volume stands on the image, or none does
 pub data TreeDecides (image : List ℕ) (held : Option Held) : ℕ → Type 0 where
@@ -116,11 +116,12 @@ Decides (blocks file options save) held status = TextDecides file held status
 Decides (format image queues area meta zone) held status =
     NumbersDecide (numbers queues area meta zone) status
 Decides (run image scripts options) held status = RunDecides image scripts options held status
-Decides (recover image cut pick) held status = RecoveryDecides image held status
+Decides (recover image cut pick) held status = StandingDecides image held status
 Decides (ls image) held status = TreeDecides image held status
 Decides (cat image path) held status = FileDecides image path held status
 Decides (gen seed threads groups save) held status = status ≡ 0
 Decides (dump image) held status = ChainsDecide image held status
+Decides (check image) held status = StandingDecides image held status
 Decides (help topic) held status = status ≡ 0
 Decides version held status = status ≡ 0
 

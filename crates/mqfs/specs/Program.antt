@@ -11,7 +11,7 @@ use Rattle.mq_command_blocks.specs.Blocks.{IsBlockText, output_of, refused_line}
 use Rattle.mq_command_blocks.specs.Cuts.{IsPrefixAt}
 use Rattle.mq_command_blocks.specs.Left.{SavesLeft}
 use Rattle.mq_command_blocks.specs.Picked.{IsRunBy, pick_of}
-use Rattle.mq_cli.specs.Asked.{Asked, Words, asked_of, blocks, cat, dump, format, gen, help, ls, recover, run, version}
+use Rattle.mq_cli.specs.Asked.{Asked, Words, asked_of, blocks, cat, check, dump, format, gen, help, ls, recover, run, version}
 use Rattle.mq_cli.specs.declared.command.BlocksOptions.{BlocksOptions}
 use Rattle.mq_cli.specs.declared.command.RunFlags.{RunFlags}
 use Rattle.mqfs.specs.Says.{Says, run_options}
@@ -21,7 +21,7 @@ abbrev pub AreUnknown : Words → Type 0
 AreUnknown words = asked_of words ≡ None
 
 abbrev pub usage_line : List ℕ
-usage_line = codes "usage: mqfs blocks|format|run|recover|ls|cat|gen|dump\n"
+usage_line = codes "usage: mqfs blocks|format|run|recover|ls|cat|gen|dump|check\n"
 
 -- What there is to say to the words, and with which status: the usage line, what there is to say of what
 -- they ask, or that memory ran out to read them.
@@ -82,6 +82,7 @@ loaded_names (ls image) = image ∷ []
 loaded_names (cat image path) = image ∷ []
 loaded_names (gen seed threads groups save) = []
 loaded_names (dump image) = image ∷ []
+loaded_names (check image) = image ∷ []
 loaded_names (help topic) = []
 loaded_names version = []
 
@@ -99,6 +100,7 @@ saved_name (ls image) = None
 saved_name (cat image path) = None
 saved_name (gen seed threads groups save) = save
 saved_name (dump image) = None
+saved_name (check image) = None
 saved_name (help topic) = None
 saved_name version = None
 

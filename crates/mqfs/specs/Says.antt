@@ -1,6 +1,7 @@
 -- What there is to say of what words ask, and with which status: one definition for each command.
 use Rattle.std.specs.Prelude.{◌≡◌, ℕ, List, option_map}
 use Rattle.std.specs.Option.{unwrap_or}
+use Rattle.mq_command_check.specs.Checks.{Checks}
 use Rattle.mq_command_images.specs.Commands.{Dumps, Formats, Lists, SaysOfImage, ShowsFile}
 use Rattle.mq_command_gen.specs.Generates.{Generates}
 use Rattle.mq_command_images.specs.Recovers.{Recovers}
@@ -12,7 +13,7 @@ use Rattle.mq_image_run.specs.declared.options.RunOptions.{RunOptions}
 use Rattle.mq_image_ops.specs.declared.ports.Failing.{Failing}
 use Rattle.mq_outside.specs.Outside.{FilesState}
 use Rattle.mq_command_blocks.specs.SaysOfBlocks.{SaysOfBlocks}
-use Rattle.mq_cli.specs.Asked.{Asked, blocks, cat, dump, format, gen, help, ls, recover, run, version}
+use Rattle.mq_cli.specs.Asked.{Asked, blocks, cat, check, dump, format, gen, help, ls, recover, run, version}
 use Rattle.mq_cli.specs.Help.{help_text, version_line}
 use Rattle.mq_cli.specs.declared.command.FailingCommand.{FailingCommand}
 use Rattle.mq_cli.specs.declared.command.RunFlags.{RunFlags}
@@ -48,5 +49,6 @@ Says (cat image path) old new status text = SaysOf (SaysOfImage (ShowsFile path)
 Says (gen seed threads groups save) old new status text =
     Generates (asked_workload seed threads groups) save old new status text
 Says (dump image) old new status text = SaysOf (SaysOfImage Dumps) image old new status text
+Says (check image) old new status text = SaysOf (SaysOfImage Checks) image old new status text
 Says (help topic) old new status text = SaysOnly (help_text topic) old new status text
 Says version old new status text = SaysOnly version_line old new status text

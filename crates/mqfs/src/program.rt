@@ -23,6 +23,7 @@ use self::workload::run_workload;
 use mq_calls::Gate;
 use mq_cli::{Command, WordsRefusal, read_command};
 use mq_command_blocks::run_blocks;
+use mq_command_check::check;
 use mq_command_images::{Numbers, cat, dump, format, ls, recover};
 use mq_command_io::{USAGE, say, say_memory};
 use mq_outside::{Files, Sink};
@@ -32,7 +33,7 @@ use std::sync::Wait;
 use std::thread::Threads;
 
 // The line of the words that are no command.
-const USAGE_LINE: &[u8] = b"usage: mqfs blocks|format|run|recover|ls|cat|gen|dump\n";
+const USAGE_LINE: &[u8] = b"usage: mqfs blocks|format|run|recover|ls|cat|gen|dump|check\n";
 
 // Runs a command. Draws of `recover` come from 0 where no pick is given.
 fn run<F: Files, K: Sink, R: Threads + Wait + Sync, G: Gate + Sync>(
@@ -93,6 +94,7 @@ fn run<F: Files, K: Sink, R: Threads + Wait + Sync, G: Gate + Sync>(
             save,
         } => run_workload(rt, alloc, seed, threads, groups, save, files, out, gate),
         Command::Dump { image } => dump(alloc, image, files, out),
+        Command::Check { image } => check(alloc, image, files, out),
         Command::Help(topic) => say_help(topic, out),
         Command::Version => say_version(out),
     }

@@ -4,7 +4,7 @@ use Rattle.mq_cli.specs.Asked.{HasSmallNumbers, number_end}
 use Rattle.mq_cli.specs.Help.{help_text, version_line}
 use Rattle.mqfs.specs.Decided.{IsRunnable, RunDecides}
 use Rattle.mqfs.specs.Says.{numbers, run_options, said}
-use Rattle.mqfs.proofs.Decided.{chains_decided, file_decided, numbers_decided, recovery_decided, tree_decided}
+use Rattle.mqfs.proofs.Decided.{chains_decided, file_decided, numbers_decided, standing_decided, tree_decided}
 use Rattle.mqfs.proofs.program.run.Goals as goal
 
 pub recover-requires : goal.recover-requires
@@ -27,6 +27,9 @@ returns-in-Gen-clause-ends g c = rw c.in-Gen.is c.run_workload.ensures.ends
 
 pub returns-in-Dump-clause-ends : goal.returns-in-Dump-clause-ends
 returns-in-Dump-clause-ends g c = rw c.in-Dump.is c.dump.ensures.ends
+
+pub returns-in-Check-clause-ends : goal.returns-in-Check-clause-ends
+returns-in-Check-clause-ends g c = rw c.in-Check.is c.check.ensures.ends
 
 pub returns-in-Help-clause-ends : goal.returns-in-Help-clause-ends
 returns-in-Help-clause-ends g c = rw c.in-Help.is (0, help_text c.in-Help.topic, said refl, c.say_help.ensures)
@@ -63,7 +66,7 @@ returns-in-Format-clause-decided g c = rw c.in-Format.is (numbers_decided (numbe
 
 pub returns-in-Recover-clause-decided : goal.returns-in-Recover-clause-decided
 returns-in-Recover-clause-decided g c =
-    rw c.in-Recover.is (recovery_decided c.in-Recover.image.now (g.F.Files.state c.args.files.now).contents c.recover.result c.recover.ensures.refused_where c.recover.ensures.unreadable_where c.recover.ensures.done_where)
+    rw c.in-Recover.is (standing_decided c.in-Recover.image.now (g.F.Files.state c.args.files.now).contents c.recover.result c.recover.ensures.refused_where c.recover.ensures.unreadable_where c.recover.ensures.done_where)
 
 pub returns-in-Ls-clause-decided : goal.returns-in-Ls-clause-decided
 returns-in-Ls-clause-decided g c =
@@ -76,3 +79,7 @@ returns-in-Cat-clause-decided g c =
 pub returns-in-Dump-clause-decided : goal.returns-in-Dump-clause-decided
 returns-in-Dump-clause-decided g c =
     rw c.in-Dump.is (chains_decided c.in-Dump.image.now (g.F.Files.state c.args.files.now).contents c.dump.result c.dump.ensures.refused_where c.dump.ensures.unreadable_where c.dump.ensures.done_where)
+
+pub returns-in-Check-clause-decided : goal.returns-in-Check-clause-decided
+returns-in-Check-clause-decided g c =
+    rw c.in-Check.is (standing_decided c.in-Check.image.now (g.F.Files.state c.args.files.now).contents c.check.result c.check.ensures.refused_where c.check.ensures.unreadable_where c.check.ensures.done_where)
