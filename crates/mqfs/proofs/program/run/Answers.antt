@@ -1,4 +1,5 @@
 use Rattle.std.proofs.Common.{◌<◌, ◌^◌, List, Option, ℕ, Bor, IfSome, map, refl, sym, subst, arith}
+use Rattle.mq_command_images.specs.Recovers.{Recovers}
 use Rattle.mq_command_run.specs.RunsScripts.{Runs}
 use Rattle.mq_cli.specs.Asked.{HasSmallNumbers, number_end}
 use Rattle.mq_cli.specs.Help.{help_text, version_line}
@@ -14,7 +15,15 @@ recover-requires g c = λ k is.
     omega (arith, low)
 
 pub returns-in-Recover-clause-ends : goal.returns-in-Recover-clause-ends
-returns-in-Recover-clause-ends g c = rw c.in-Recover.is c.recover.ensures.ends
+returns-in-Recover-clause-ends g c =
+    let files = g.F.Files.state in
+    let ends = c.recover.ensures.ends in
+    rw c.in-Recover.is (
+      ends.0,
+      ends.1,
+      subst (λ (n : ℕ). Recovers c.in-Recover.cut n c.in-Recover.image.now (files c.args.files.now) (files c.recover.new.files) ends.0 ends.1) c.unwrap_or.ensures ends.2,
+      ends.3,
+    )
 
 pub returns-in-Ls-clause-ends : goal.returns-in-Ls-clause-ends
 returns-in-Ls-clause-ends g c = rw c.in-Ls.is c.ls.ensures.ends
