@@ -15,8 +15,7 @@ pub returns-in-Ok-recovery_of-clause-ok : goal.returns-in-Ok-recovery_of-clause-
 returns-in-Ok-recovery_of-clause-ok c =
     let recovered = c.in-Ok.recovered in
     let recovery = c.in-Ok.ensures.ok in
-    let chosen = c.in-Ok.ensures.chosen in
-    (
+    let chosen = c.in-Ok.ensures.chosen in (
       recovered,
       record { recovery = recovery; chosen = chosen; rest = c.a_recovery_leaves_the_rest.ensures c.args.image c.args.cut c.args.pick recovered c.requires.image recovery chosen },
       c.in-Ok-recovery_of.ensures,
