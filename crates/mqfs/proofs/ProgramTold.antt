@@ -28,7 +28,6 @@ use Rattle.mq_cli.specs.declared.command.BlocksOptions.{BlocksOptions}
 use Rattle.mq_cli.specs.declared.command.RunFlags.{RunFlags}
 use Rattle.mqfs.specs.Program.{AreUnknown, HoldsTooMuch, IsStatus, IsToSay, KeepsOthers, TakesUpTo, loaded_by, loaded_names, no_command, no_memory, of_command, saved_name, usage_line}
 use Rattle.mqfs.specs.Says.{Says, SaysOnly, asked_workload, numbers, run_options, said}
-use Rattle.mq_block_text.specs.declared.item.BlockItem.{BlockItem}
 
 -- ---- names
 
