@@ -205,7 +205,7 @@ told_left None file bytes x old mid new load same =
 told_left (Some name) file bytes x old mid new load saves = told_saved (file ∷ []) name _ old mid new load.contents load.faults (one-load [] file old.taken mid.taken load.takes) saves
 
 told_blocks : (file : List ℕ) (options : BlocksOptions) (save : Option (List ℕ)) (old new : FilesState) (status : ℕ) (text : List ℕ) → SaysOfBlocks file options save old new status text → Told save (file ∷ []) Nothing (BadText file old text) Nothing old new status
-told_blocks file options save old new _ _ (printed bytes lines p x mid load is at run saves) = weaker save (file ∷ []) _ _ old new 0 (told_left save file bytes x old mid new load saves)
+told_blocks file options save old new _ _ (printed bytes lines p x mid load is at by saves) = weaker save (file ∷ []) _ _ old new 0 (told_left save file bytes x old mid new load saves)
 told_blocks file options save old new _ _ (refused bytes line cause load refuses) = record {
   is = inr (inr (inl refl));
   names = keeps save old new load.contents;
