@@ -1,0 +1,14 @@
+use Rattle.std.proofs.Common.{◌≡◌, ◌≤◌, ℕ, drop}
+use Rattle.std.specs.Prelude.{map}
+use Rattle.mq_blocks.specs.Geometry.{homes_of}
+use Rattle.mq_audit.specs.Lists.{rising_in, blocks_in}
+use Rattle.mq_audit.specs.Words.{block_in}
+use Rattle.mq_audit.proofs.ListsReading.{before}
+use Rattle.mq_audit.proofs.lists.read_blocks.Given as goal
+
+-- the words so far are these blocks, and the next is not below this one
+abbrev pub invariant-loop-word : goal.invariant-loop-word
+invariant-loop-word l = record {
+  low : l.low ≤ homes_of l.geometry;
+  read : blocks_in l.geometry 0 (map (λ w. w.now) l.words) ≡ before l.blocks.items (rising_in (λ (b : ℕ). b) (block_in l.geometry) l.low (map (λ w. w.now) (drop l.word-index l.words)));
+}

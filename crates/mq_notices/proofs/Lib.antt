@@ -1,0 +1,8 @@
+mod Lists
+mod Protocols
+mod Keeping
+mod Ends
+mod Pushed
+mod Helped
+mod Interleaving
+pub mod Served
