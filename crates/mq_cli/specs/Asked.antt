@@ -19,7 +19,7 @@ Words = List Text
 
 -- what words ask
 pub data Asked : Type 0 where
-  blocks : (file : Text) → BlocksOptions → (save : Option Text) → Asked
+  blocks : (file : Text) → BlocksOptions → (save trace : Option Text) → Asked
   format : (image : Text) → (queues area meta zone : ℕ) → Asked
   run : (image : Text) → (scripts : List Text) → RunFlags → Asked
   recover : (image : Text) → (cut pick : Option ℕ) → Asked
@@ -28,6 +28,7 @@ pub data Asked : Type 0 where
   gen : (seed threads groups : ℕ) → (save : Option Text) → Asked
   dump : (image : Text) → Asked
   check : (image : Text) → Asked
+  audit : (trace : Text) → Asked
   help : Option Verb → Asked
   version : Asked
 
@@ -91,11 +92,18 @@ path_within text = if list_all is_visible text then path_in text else None
 
 -- ---- what the values of a command ask
 
-abbrev pub blocks_by : Option Text → (cut pick again : Option (Option ℕ)) → (save : Option Text)
+-- both are given, and are the same name
+abbrev pub are_one_name : (save trace : Option Text) → Bool
+are_one_name (Some save) (Some trace) = bytes_eq save trace
+are_one_name _ _ = false
+
+-- an image and a trace are not saved under one name
+abbrev pub blocks_by : Option Text → (cut pick again : Option (Option ℕ)) → (save trace : Option Text)
     → Option Asked
-blocks_by (Some file) (Some cut) (Some pick) (Some again) save =
-    Some (blocks file (record { cut = cut; pick = pick; again = again }) save)
-blocks_by _ _ _ _ _ = None
+blocks_by (Some file) (Some cut) (Some pick) (Some again) save trace =
+    if are_one_name save trace then None
+    else Some (blocks file (record { cut = cut; pick = pick; again = again }) save trace)
+blocks_by _ _ _ _ _ _ = None
 
 abbrev pub format_by : Option Text → (queues area meta zone : Option ℕ) → Option Asked
 format_by (Some image) (Some queues) (Some area) (Some meta) (Some zone) =
@@ -138,7 +146,7 @@ abbrev pub asked_by : Verb → List Row → Option Asked
 asked_by verb.Blocks rows = blocks_by (first_of (codes "file") rows)
     (number_option (first_of (codes "cut") rows)) (number_option (first_of (codes "pick") rows))
     (number_option (first_of (codes "again") rows))
-    (first_of (codes "save") rows)
+    (first_of (codes "save") rows) (first_of (codes "trace") rows)
 asked_by verb.Format rows = format_by (first_of (codes "image") rows)
     (word_in (first_of (codes "queues") rows)) (word_in (first_of (codes "area") rows))
     (word_in (first_of (codes "meta") rows)) (word_in (first_of (codes "zone") rows))
@@ -156,6 +164,7 @@ asked_by verb.Gen rows = gen_by (number_from 0 number_end (first_of (codes "seed
     (first_of (codes "save") rows)
 asked_by verb.Dump rows = option_map dump (first_of (codes "image") rows)
 asked_by verb.Check rows = option_map check (first_of (codes "image") rows)
+asked_by verb.Audit rows = option_map audit (first_of (codes "trace") rows)
 
 -- ---- what words ask
 
@@ -192,7 +201,8 @@ asked_of (word ∷ words) = asked_after (verb_of word) word words
 
 -- the same as a command
 abbrev pub asked : Command → Asked
-asked (command.Blocks file options save) = blocks file.now options (option_map (λ s. s.now) save)
+asked (command.Blocks file options save trace) =
+    blocks file.now options (option_map (λ s. s.now) save) (option_map (λ s. s.now) trace)
 asked (command.Format image queues area meta zone) = format image.now queues area meta zone
 asked (command.Run image scripts options) = run image.now (map (λ s. s.now) scripts.items) options
 asked (command.Recover image cut pick) = recover image.now cut pick
@@ -201,6 +211,7 @@ asked (command.Cat image path) = cat image.now path
 asked (command.Gen seed threads groups save) = gen seed threads groups (option_map (λ s. s.now) save)
 asked (command.Dump image) = dump image.now
 asked (command.Check image) = check image.now
+asked (command.Audit trace) = audit trace.now
 asked (command.Help verb) = help verb
 asked command.Version = version
 
@@ -226,7 +237,7 @@ AreSmallOfGen seed threads groups =
     (seed < number_end) × (1 ≤ threads) × (threads < threads_end) × (groups < groups_end)
 
 abbrev pub HasSmallNumbers : Command → Type 0
-HasSmallNumbers (command.Blocks file options save) = AreSmall options
+HasSmallNumbers (command.Blocks file options save trace) = AreSmall options
 HasSmallNumbers (command.Run image scripts options) = AreSmallOfRun options
 HasSmallNumbers (command.Recover image cut pick) =
     IfSome cut (λ n. n < number_end) × IfSome pick (λ n. n < number_end)

@@ -6,7 +6,7 @@ use Rattle.mq_cli.specs.declared.verb.Verb.TheVariants as verb
 unfoldable pub program_help : List ℕ
 program_help =
     codes "mqfs runs a crash-consistent journal on an emulated drive.\n\n"
-    ++ (codes "  mqfs blocks FILE [--cut K] [--pick S] [--again J] [--save NAME]\n"
+    ++ (codes "  mqfs blocks FILE [--cut K] [--pick S] [--again J] [--save NAME] [--trace NAME]\n"
     ++ (codes "  mqfs format IMAGE QUEUES AREA META ZONE\n"
     ++ (codes "  mqfs run IMAGE SCRIPT.. [--cut K] [--pick S] [--fail Q:N]\n"
     ++ (codes "  mqfs recover IMAGE [--cut K] [--pick S]\n"
@@ -14,19 +14,21 @@ program_help =
     ++ (codes "  mqfs cat IMAGE PATH\n"
     ++ (codes "  mqfs gen SEED THREADS GROUPS [--save NAME]\n"
     ++ (codes "  mqfs dump IMAGE\n"
-    ++ (codes "  mqfs check IMAGE\n\n"
-    ++ (codes "mqfs COMMAND --help says more of a command.\n"))))))))))
+    ++ (codes "  mqfs check IMAGE\n"
+    ++ (codes "  mqfs audit TRACE\n\n"
+    ++ (codes "mqfs COMMAND --help says more of a command.\n")))))))))))
 
 unfoldable pub blocks_help : List ℕ
 blocks_help =
-    codes "mqfs blocks FILE [--cut K] [--pick S] [--again J] [--save NAME]\n\n"
+    codes "mqfs blocks FILE [--cut K] [--pick S] [--again J] [--save NAME] [--trace NAME]\n\n"
     ++ (codes "Commits each line of the block text FILE as a transaction on a fresh drive,\n"
     ++ (codes "cuts the power, recovers, and prints what stands.\n\n"
-    ++ (codes "  --cut K      the power goes off after K events, else at the end\n"
-    ++ (codes "  --pick S     chooses what a cut leaves of what is not certain, else 0\n"
-    ++ (codes "  --again J    a first recovery is cut after J events\n"
-    ++ (codes "  --save NAME  saves the image that the cut left, before the recovery\n\n"
-    ++ (codes "Example: mqfs blocks examples/frees.txt --cut 10\n")))))))
+    ++ (codes "  --cut K       the power goes off after K events, else at the end\n"
+    ++ (codes "  --pick S      chooses what a cut leaves of what is not certain, else 0\n"
+    ++ (codes "  --again J     a first recovery is cut after J events\n"
+    ++ (codes "  --save NAME   saves the image that the cut left, before the recovery\n"
+    ++ (codes "  --trace NAME  saves the trace of the events up to the cut\n\n"
+    ++ (codes "Example: mqfs blocks examples/frees.txt --cut 10\n"))))))))
 
 unfoldable pub format_help : List ℕ
 format_help =
@@ -92,6 +94,14 @@ check_help =
     ++ (codes "saved.\n\n"
     ++ (codes "Example: mqfs check d\n"))))
 
+unfoldable pub audit_help : List ℕ
+audit_help =
+    codes "mqfs audit TRACE\n\n"
+    ++ (codes "Runs the events of TRACE on the state machine of the journal: prints how many it\n"
+    ++ (codes "took and which transactions a cut after them may leave, or the line of the first\n"
+    ++ (codes "that it does not allow. Nothing is saved.\n\n"
+    ++ (codes "Example: mqfs audit t\n"))))
+
 abbrev pub help_text : Option Verb → List ℕ
 help_text None = program_help
 help_text (Some verb.Blocks) = blocks_help
@@ -103,6 +113,7 @@ help_text (Some verb.Cat) = cat_help
 help_text (Some verb.Gen) = gen_help
 help_text (Some verb.Dump) = dump_help
 help_text (Some verb.Check) = check_help
+help_text (Some verb.Audit) = audit_help
 
 abbrev pub version_line : List ℕ
 version_line = codes "mqfs 0.1.0\n"

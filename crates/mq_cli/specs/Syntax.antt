@@ -4,7 +4,7 @@ use Rattle.clap.specs.Words.{App, Rule, Text, new_rule}
 use Rattle.clap.specs.Simple.{new_shape}
 use Rattle.clap.specs.declared.builder.action.ArgAction.TheVariants as action
 use Rattle.mq_cli.specs.declared.verb.Verb.{Verb}
-use Rattle.mq_cli.specs.declared.verb.Verb.TheVariants.{Blocks, Format, Run, Recover, Ls, Cat, Gen, Dump, Check}
+use Rattle.mq_cli.specs.declared.verb.Verb.TheVariants.{Blocks, Format, Run, Recover, Ls, Cat, Gen, Dump, Check, Audit}
 
 -- ---- the commands by name
 
@@ -18,6 +18,7 @@ verb_text Cat = codes "cat"
 verb_text Gen = codes "gen"
 verb_text Dump = codes "dump"
 verb_text Check = codes "check"
+verb_text Audit = codes "audit"
 
 abbrev pub verb_of : Text → Option Verb
 verb_of word =
@@ -30,6 +31,7 @@ verb_of word =
     else if bytes_eq word (codes "gen") then Some Gen
     else if bytes_eq word (codes "dump") then Some Dump
     else if bytes_eq word (codes "check") then Some Check
+    else if bytes_eq word (codes "audit") then Some Audit
     else None
 
 -- ---- their words
@@ -45,6 +47,7 @@ names_for Cat = codes "image" ∷ codes "path" ∷ []
 names_for Gen = codes "seed" ∷ codes "threads" ∷ codes "groups" ∷ []
 names_for Dump = codes "image" ∷ []
 names_for Check = codes "image" ∷ []
+names_for Audit = codes "trace" ∷ []
 
 -- the name behind these of which it wants one or more words, where it has one
 abbrev pub repeated_for : Verb → Option Text
@@ -57,10 +60,11 @@ repeated_for Cat = None
 repeated_for Gen = None
 repeated_for Dump = None
 repeated_for Check = None
+repeated_for Audit = None
 
 -- the options that it takes, each with a value
 abbrev pub options_for : Verb → List Text
-options_for Blocks = codes "cut" ∷ codes "pick" ∷ codes "again" ∷ codes "save" ∷ []
+options_for Blocks = codes "cut" ∷ codes "pick" ∷ codes "again" ∷ codes "save" ∷ codes "trace" ∷ []
 options_for Format = []
 options_for Run = codes "cut" ∷ codes "pick" ∷ codes "fail" ∷ []
 options_for Recover = codes "cut" ∷ codes "pick" ∷ []
@@ -69,6 +73,7 @@ options_for Cat = []
 options_for Gen = codes "save" ∷ []
 options_for Dump = []
 options_for Check = []
+options_for Audit = []
 
 -- a name, which has to stand as one word
 abbrev pub name_rule : Text → Rule

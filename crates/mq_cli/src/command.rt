@@ -42,6 +42,8 @@ pub enum Command<'a> {
         options: BlocksOptions,
         /// The name under which the image that the cut left is saved.
         save: Option<&'a str>,
+        /// The name under which the trace of the events up to the cut is saved. It is not that of the image.
+        trace: Option<&'a str>,
     },
     Format {
         image: &'a str,
@@ -84,6 +86,9 @@ pub enum Command<'a> {
     },
     Check {
         image: &'a str,
+    },
+    Audit {
+        trace: &'a str,
     },
     /// Help on a command, or on the program.
     Help(Option<Verb>),

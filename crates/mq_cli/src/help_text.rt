@@ -1,6 +1,6 @@
 // What the program says of itself and of each command.
 ghost use Rattle.std.specs.Prelude.{◌≡◌};
-ghost use Rattle.mq_cli.specs.Help.{blocks_help, cat_help, check_help, dump_help, format_help, gen_help, help_text, ls_help, program_help, recover_help, run_help, version_line as version_text};
+ghost use Rattle.mq_cli.specs.Help.{audit_help, blocks_help, cat_help, check_help, dump_help, format_help, gen_help, help_text, ls_help, program_help, recover_help, run_help, version_line as version_text};
 
 use crate::verb::Verb;
 
@@ -10,7 +10,7 @@ fn program_text() -> &'static str
 {
     "mqfs runs a crash-consistent journal on an emulated drive.
 
-  mqfs blocks FILE [--cut K] [--pick S] [--again J] [--save NAME]
+  mqfs blocks FILE [--cut K] [--pick S] [--again J] [--save NAME] [--trace NAME]
   mqfs format IMAGE QUEUES AREA META ZONE
   mqfs run IMAGE SCRIPT.. [--cut K] [--pick S] [--fail Q:N]
   mqfs recover IMAGE [--cut K] [--pick S]
@@ -19,6 +19,7 @@ fn program_text() -> &'static str
   mqfs gen SEED THREADS GROUPS [--save NAME]
   mqfs dump IMAGE
   mqfs check IMAGE
+  mqfs audit TRACE
 
 mqfs COMMAND --help says more of a command.
 "
@@ -28,15 +29,16 @@ mqfs COMMAND --help says more of a command.
 fn blocks_text() -> &'static str
     ensures { result.now ≡ blocks_help }
 {
-    "mqfs blocks FILE [--cut K] [--pick S] [--again J] [--save NAME]
+    "mqfs blocks FILE [--cut K] [--pick S] [--again J] [--save NAME] [--trace NAME]
 
 Commits each line of the block text FILE as a transaction on a fresh drive,
 cuts the power, recovers, and prints what stands.
 
-  --cut K      the power goes off after K events, else at the end
-  --pick S     chooses what a cut leaves of what is not certain, else 0
-  --again J    a first recovery is cut after J events
-  --save NAME  saves the image that the cut left, before the recovery
+  --cut K       the power goes off after K events, else at the end
+  --pick S      chooses what a cut leaves of what is not certain, else 0
+  --again J     a first recovery is cut after J events
+  --save NAME   saves the image that the cut left, before the recovery
+  --trace NAME  saves the trace of the events up to the cut
 
 Example: mqfs blocks examples/frees.txt --cut 10
 "
@@ -157,6 +159,20 @@ Example: mqfs check d
 "
 }
 
+#[tactic(auto, unfolding(crate::specs::Help::audit_help))]
+fn audit_text() -> &'static str
+    ensures { result.now ≡ audit_help }
+{
+    "mqfs audit TRACE
+
+Runs the events of TRACE on the state machine of the journal: prints how many it
+took and which transactions a cut after them may leave, or the line of the first
+that it does not allow. Nothing is saved.
+
+Example: mqfs audit t
+"
+}
+
 /// The help on a command, or on the program.
 pub fn help_on(topic: Option<Verb>) -> &'static str
     ensures { result.now ≡ help_text topic }
@@ -172,6 +188,7 @@ pub fn help_on(topic: Option<Verb>) -> &'static str
         Some(Verb::Gen) => gen_text(),
         Some(Verb::Dump) => dump_text(),
         Some(Verb::Check) => check_text(),
+        Some(Verb::Audit) => audit_text(),
     }
 }
 

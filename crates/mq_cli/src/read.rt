@@ -2,7 +2,7 @@
 ghost use Rattle.std.specs.Prelude.{◌≡◌, ◌≤◌, ◌<◌, ◌⊎◌, None, Some, IfOk, IfSome, MatchResult, length, map, option_map};
 ghost use Rattle.std.specs.String.{string_bytes};
 ghost use Rattle.clap.specs.Words.{all_of, first_of, found_of, rows_of};
-ghost use Rattle.mq_cli.specs.Asked.{HasScript, HasSmallNumbers, NamesCommand, Words, asked, asked_after, asked_by, asked_of, failing_option, found_in, number_end, number_from, number_option, some_words, word_in};
+ghost use Rattle.mq_cli.specs.Asked.{HasScript, HasSmallNumbers, NamesCommand, Words, are_one_name, asked, asked_after, asked_by, asked_of, failing_option, found_in, number_end, number_from, number_option, some_words, word_in};
 ghost use Rattle.mq_cli.specs.declared.verb.Verb.TheVariants as verb;
 
 use crate::command::{BlocksOptions, Command, FailingCommand, RunFlags};
@@ -99,6 +99,16 @@ fn words_of<'a>(
     Ok(words.to_vec(alloc)?)
 }
 
+// Whether both names are given, and are the same.
+fn is_one_name(save: Option<&str>, trace: Option<&str>) -> bool
+    ensures { result ≡ are_one_name (option_map (λ s. s.now) save.entry) (option_map (λ s. s.now) trace.entry) }
+{
+    match (save, trace) {
+        (Some(save), Some(trace)) => save == trace,
+        _ => false,
+    }
+}
+
 // What is found of `blocks` asks.
 fn blocks<'a>(matches: &ArgMatches<'a>) -> Result<Command<'a>, WordsRefusal>
     ensures asks { MatchResult result (λ c. asked_by verb.Blocks (rows_of (found_of matches.now)) ≡ Some (asked c))
@@ -111,10 +121,16 @@ fn blocks<'a>(matches: &ArgMatches<'a>) -> Result<Command<'a>, WordsRefusal>
     let cut = number(matches, "cut")?;
     let pick = number(matches, "pick")?;
     let again = number(matches, "again")?;
+    let save = found(matches, "save");
+    let trace = found(matches, "trace");
+    if is_one_name(save, trace) {
+        return Err(WordsRefusal::Unknown);
+    }
     Ok(Command::Blocks {
         file,
         options: BlocksOptions { cut, pick, again },
-        save: found(matches, "save"),
+        save,
+        trace,
     })
 }
 
@@ -237,6 +253,10 @@ fn command_of<'a>(
         Verb::Check => {
             let image = name(matches, "image")?;
             Ok(Command::Check { image })
+        }
+        Verb::Audit => {
+            let trace = name(matches, "trace")?;
+            Ok(Command::Audit { trace })
         }
     }
 }

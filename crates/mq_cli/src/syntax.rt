@@ -18,6 +18,7 @@ pub fn names<'a>(verb: Verb) -> &'a [&'a str]
         Verb::Gen => &["seed", "threads", "groups"],
         Verb::Dump => &["image"],
         Verb::Check => &["image"],
+        Verb::Audit => &["trace"],
     }
 }
 
@@ -34,7 +35,8 @@ pub fn repeated<'a>(verb: Verb) -> Option<&'a str>
         | Verb::Cat
         | Verb::Gen
         | Verb::Dump
-        | Verb::Check => None,
+        | Verb::Check
+        | Verb::Audit => None,
     }
 }
 
@@ -43,10 +45,10 @@ pub fn options<'a>(verb: Verb) -> &'a [&'a str]
     ensures { map (λ s. s.now) result.now ≡ options_for verb }
 {
     match verb {
-        Verb::Blocks => &["cut", "pick", "again", "save"],
+        Verb::Blocks => &["cut", "pick", "again", "save", "trace"],
         Verb::Run => &["cut", "pick", "fail"],
         Verb::Recover => &["cut", "pick"],
         Verb::Gen => &["save"],
-        Verb::Format | Verb::Ls | Verb::Cat | Verb::Dump | Verb::Check => &[],
+        Verb::Format | Verb::Ls | Verb::Cat | Verb::Dump | Verb::Check | Verb::Audit => &[],
     }
 }

@@ -14,6 +14,7 @@ pub enum Verb {
     Gen,
     Dump,
     Check,
+    Audit,
 }
 
 impl Verb {
@@ -31,6 +32,7 @@ impl Verb {
             Verb::Gen => "gen",
             Verb::Dump => "dump",
             Verb::Check => "check",
+            Verb::Audit => "audit",
         }
     }
 }
@@ -49,6 +51,7 @@ pub fn read_verb(word: &str) -> Option<Verb>
         "gen" => Some(Verb::Gen),
         "dump" => Some(Verb::Dump),
         "check" => Some(Verb::Check),
+        "audit" => Some(Verb::Audit),
         _ => None,
     }
 }

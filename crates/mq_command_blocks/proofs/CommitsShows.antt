@@ -12,7 +12,7 @@ use Rattle.mq_blocks.specs.Machine.{Map, Transaction, write_of, or_kept, after, 
 use Rattle.mq_blocks.specs.declared.geometry.Geometry.{Geometry}
 use Rattle.mq_drive.specs.Start.{IsPortOf}
 use Rattle.mq_drive.specs.declared.role.Role.TheVariants.{Queue}
-use Rattle.mq_command_blocks.specs.Lines.{empty_map}
+use Rattle.mq_block_trace.specs.Lines.{empty_map}
 use Rattle.mq_command_blocks.specs.Commits.{Agrees, Carries, AllCarry, Keeps, ShowsMap}
 use Rattle.mq_command_blocks.specs.Cuts.{IsEarly}
 use Rattle.mq_pmr.specs.Runs.{Items}

@@ -1,21 +1,18 @@
 -- The drive of zeros on which a text is committed, and what a cut leaves of it.
 use Rattle.std.proofs.Common.{◌≡◌, ◌<◌, ◌≤◌, ℕ, ◌+◌, ◌*◌, ◌^◌, List, [], ◌∷◌, ◌++◌, All, length, map, get_or, Option, Some, None, refl, sym, ◌∙◌, ap, subst, arith}
-use Rattle.std.specs.Prelude.{IfSome, OnErr, OnOk, Result, Ok, Err, slice_get}
+use Rattle.std.specs.Prelude.{IfSome, OnErr, OnOk, Result, Ok, Err}
 use Rattle.std.proofs.lemmas.List.{length-map}
-use Rattle.std.proofs.lemmas.Option.{same_Some}
-use Rattle.mq_blocks.specs.Drive.{FuseName, PortImage, PortState, IsImage, IsQuiescent, counted}
+use Rattle.mq_blocks.specs.Drive.{FuseName, PortImage, PortState, IsQuiescent, counted}
 use Rattle.mq_blocks.specs.Geometry.{homes_of, queues_of}
 use Rattle.mq_blocks.specs.Journal.{no_image, shown}
 use Rattle.mq_blocks.specs.declared.geometry.Geometry.{Geometry}
 use Rattle.mq_nvme.specs.Says.{journal_reading}
 use Rattle.mq_drive.specs.Emu.{drawn_by, emu_faults, emu_state}
-use Rattle.mq_drive.specs.Seats.{tickets_of}
 use Rattle.mq_drive.specs.Start.{IsImageOf, IsPortOf, start_of}
 use Rattle.mq_drive.specs.Steps.{CommandError, Gains, PortFault}
 use Rattle.mq_drive.specs.declared.emu.EmuPort.{EmuPort}
 use Rattle.mq_drive.specs.declared.fuse.FuseSeat.{FuseSeat}
 use Rattle.mq_drive.specs.declared.port.Ports.{Ports}
-use Rattle.mq_drive.specs.declared.role.Role.{Role}
 use Rattle.mq_drive.specs.declared.role.Role.TheVariants.{Queue, Root}
 use Rattle.mq_drive.proofs.Start.{port_of-start, quiet-start}
 use Rattle.mq_image.specs.File.{DriveImage, queue_ports, root_port}
@@ -25,16 +22,17 @@ use Rattle.mq_image_ops.specs.Starts.{AreStarted, IsFreshPort}
 use Rattle.mq_image_ops.specs.Views.{port_from}
 use Rattle.mq_image_ops.proofs.Views.{queue-in, queues-count, start-length, start-queue}
 use Rattle.mq_ledger.specs.State.{port_at}
-use Rattle.mq_recover.specs.Drives.{DriveState, drive_of}
+use Rattle.mq_recover.specs.Drives.{DriveState}
 use Rattle.mq_block_text.specs.Text.{AreGoodItems, AreGoodLines}
 use Rattle.mq_block_text.specs.declared.item.BlockItem.{BlockItem}
 use Rattle.mq_block_text.specs.declared.item.BlockItem.TheVariants.{Set, Free}
 use Rattle.mq_command_blocks.specs.Causes.{HasTextCause}
 use Rattle.mq_command_blocks.specs.Commits.{AreBelow, AllBelow, IsClean, IsCleanQueue, ShowsLines, ShowsMap}
-use Rattle.mq_command_blocks.specs.Cuts.{HasBounds, HasStopped, IsReached, ShowsReached, StandsUnder, events_of, rung_after}
-use Rattle.mq_command_blocks.specs.Fresh.{IsTextGeometry}
+use Rattle.mq_block_trace.specs.Prefixes.{IsReached, events_of}
+use Rattle.mq_command_blocks.specs.Cuts.{HasBounds, HasStopped, ShowsReached, StandsUnder, rung_after}
+use Rattle.mq_block_trace.specs.Fresh.{IsTextGeometry}
 use Rattle.mq_command_blocks.specs.Left.{IsCutText}
-use Rattle.mq_command_blocks.specs.Lines.{map_after}
+use Rattle.mq_block_trace.specs.Lines.{map_after}
 use Rattle.mq_command_blocks.specs.Ports.{the_queue}
 use Rattle.mq_command_blocks.specs.declared.commit.TextRefusal.{TextRefusal}
 use Rattle.mq_command_blocks.specs.declared.commit.TextRefusal.TheVariants.{Off, Failed, OutOfMemory}

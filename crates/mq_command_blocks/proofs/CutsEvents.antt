@@ -2,8 +2,9 @@
 use Rattle.std.proofs.Common.{◌≡◌, ◌<◌, ◌≤◌, ℕ, zero, suc, ◌+◌, ◌-◌, ◌*◌, Bool, cond, List, [], ◌∷◌, length, refl, sym, ◌∙◌, ap, subst, arith}
 use Rattle.std.proofs.lemmas.Bool.{le-ltb, lt-ltb}
 use Rattle.mq_blocks.specs.Drive.{counted}
-use Rattle.mq_command_blocks.specs.Cuts.{events_of, line_events, rung_after, rung_by, rung_upto}
-use Rattle.mq_command_blocks.specs.Lines.{line_at}
+use Rattle.mq_block_trace.specs.Prefixes.{events_of, line_events}
+use Rattle.mq_command_blocks.specs.Cuts.{rung_after, rung_by, rung_upto}
+use Rattle.mq_block_trace.specs.Lines.{line_at}
 use Rattle.mq_block_text.specs.Text.{places_of, sets_in}
 use Rattle.mq_block_text.specs.declared.item.BlockItem.{BlockItem}
 

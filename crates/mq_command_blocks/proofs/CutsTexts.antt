@@ -13,8 +13,9 @@ use Rattle.mq_drive.specs.declared.fuse.FuseSeat.{FuseSeat}
 use Rattle.mq_drive.proofs.Happened.{happened-alone}
 use Rattle.mq_drive.proofs.StepsFaults.{off_above, off_unlimited, no_error, command_error_is_none}
 use Rattle.mq_command_blocks.specs.Blocks.{output_of}
-use Rattle.mq_command_blocks.specs.Cuts.{events_of, events_under, rung_after, IsReached, IsPrefixAt, StandsUnder}
-use Rattle.mq_command_blocks.specs.Lines.{live_from, map_after, named}
+use Rattle.mq_block_trace.specs.Prefixes.{events_of, events_under, IsReached, IsPrefixAt}
+use Rattle.mq_command_blocks.specs.Cuts.{rung_after, StandsUnder}
+use Rattle.mq_block_trace.specs.Lines.{live_from, map_after, named}
 use Rattle.mq_block_text.specs.Text.{printed}
 use Rattle.mq_block_text.specs.declared.item.BlockItem.{BlockItem}
 

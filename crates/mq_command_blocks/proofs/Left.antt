@@ -15,10 +15,11 @@ use Rattle.mq_image_ops.specs.Views.{view_of}
 use Rattle.mq_nvme.specs.Says.{journal_reading}
 use Rattle.mq_block_text.specs.declared.item.BlockItem.{BlockItem}
 use Rattle.mq_command_blocks.specs.Commits.{ShowsMap}
-use Rattle.mq_command_blocks.specs.Cuts.{events_under, rung_after}
-use Rattle.mq_command_blocks.specs.Fresh.{IsTextGeometry}
-use Rattle.mq_command_blocks.specs.Left.{IsFile, IsLeft, KeepsLeft, drive_image}
-use Rattle.mq_command_blocks.specs.Lines.{map_after}
+use Rattle.mq_block_trace.specs.Prefixes.{events_under}
+use Rattle.mq_command_blocks.specs.Cuts.{rung_after}
+use Rattle.mq_block_trace.specs.Fresh.{IsTextGeometry}
+use Rattle.mq_command_blocks.specs.Left.{IsFile, IsLeft, IsTraceFile, KeepsLeft, KeepsTrace, drive_image}
+use Rattle.mq_block_trace.specs.Lines.{map_after}
 
 module _ (g : Geometry) (q r : PortImage) (one : queues_of g ≡ 1) where
   pub left_root : root_port (drive_image g q r) ≡ r
@@ -58,3 +59,8 @@ module _ {Z : Type 0} where
   pub keeps_left : (wanted : Bool) (x : DriveImage) (left : Option (Vec ℕ Z)) → (wanted ≡ false → left ≡ None) → (wanted ≡ true → IsFile (image_bytes x) left) → KeepsLeft wanted x left
   keeps_left false x left none some = none refl
   keeps_left true x left none some = some refl
+
+  -- so is the trace
+  pub keeps_trace : (wanted : Bool) (lines : List (List BlockItem)) (cut : Option ℕ) (traced : Option (Vec ℕ Z)) → (wanted ≡ false → traced ≡ None) → (wanted ≡ true → IsTraceFile lines cut traced) → KeepsTrace wanted lines cut traced
+  keeps_trace false lines cut traced none some = none refl
+  keeps_trace true lines cut traced none some = some refl

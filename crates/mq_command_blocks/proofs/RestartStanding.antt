@@ -1,6 +1,5 @@
 -- What stands on an image after one recovery, and after two.
 use Rattle.std.proofs.Common.{◌≡◌, ◌⊎◌, ◌<◌, ⊎_elim, ℕ, List, [], length, Option, Some, None, refl, sym, ◌∙◌, ap, subst, arith}
-use Rattle.mq_blocks.specs.Blocks.{block_at}
 use Rattle.mq_blocks.specs.Descriptor.{Descriptor}
 use Rattle.mq_blocks.specs.Geometry.{homes_of}
 use Rattle.mq_blocks.specs.Journal.{Reaches, stands}
@@ -17,7 +16,7 @@ use Rattle.mq_recover.specs.declared.refusal.ImageFault.TheVariants.{OutOfMemory
 use Rattle.mq_recover.proofs.DrivesImages.{reaches-same, read-reaches, read-same}
 use Rattle.mq_block_text.specs.declared.item.BlockItem.{BlockItem}
 use Rattle.mq_command_blocks.specs.Left.{IsLeft}
-use Rattle.mq_command_blocks.specs.Lines.{map_after}
+use Rattle.mq_block_trace.specs.Lines.{map_after}
 use Rattle.mq_command_blocks.specs.Live.{HoldsMap}
 use Rattle.mq_command_blocks.specs.Restart.{StandsOn}
 use Rattle.mq_command_blocks.proofs.CutsDrives.{text_homes}

@@ -1,6 +1,6 @@
 -- What `mqfs blocks` makes of the bytes of a file.
 use Rattle.std.specs.Prelude.{ℕ, List, [], ◌∷◌, ◌++◌, codes}
-use Rattle.mq_command_blocks.specs.Lines.{map_after, live_from, named}
+use Rattle.mq_block_trace.specs.Lines.{map_after, live_from, named}
 use Rattle.mq_block_text.specs.Refusals.{cause_name}
 use Rattle.mq_block_text.specs.Text.{IsTextOf, IsGoodText, number_text, printed}
 use Rattle.mq_block_text.specs.declared.item.BlockItem.{BlockItem}

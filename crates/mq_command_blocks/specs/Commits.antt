@@ -11,7 +11,7 @@ use Rattle.mq_blocks.specs.Machine.{Map, Writes, Transaction, write_of}
 use Rattle.mq_blocks.specs.declared.geometry.Geometry.{Geometry}
 use Rattle.mq_drive.specs.Start.{IsPortOf}
 use Rattle.mq_drive.specs.declared.role.Role.TheVariants.{Queue, Root}
-use Rattle.mq_command_blocks.specs.Lines.{map_after}
+use Rattle.mq_block_trace.specs.Lines.{map_after}
 use Rattle.mq_pmr.specs.Runs.{Items}
 use Rattle.mq_block_text.specs.Text.{block_of}
 use Rattle.mq_block_text.specs.declared.item.BlockItem.{BlockItem}

@@ -1,5 +1,5 @@
 -- What a refusal in the middle of a commit leaves, and how many lines of a text then stand.
-use Rattle.std.specs.Prelude.{◌≡◌, ◌<◌, ◌≤◌, ◌⊎◌, ℕ, zero, suc, ◌+◌, ◌-◌, ◌*◌, ◌%◌, List, [], ◌∷◌, length, false, Option, Some, None, slice_index_or, min, nat_lt, if◌then◌else◌}
+use Rattle.std.specs.Prelude.{◌≡◌, ◌<◌, ◌⊎◌, ℕ, zero, suc, ◌+◌, ◌-◌, ◌*◌, ◌%◌, List, [], ◌∷◌, length, false, Option, Some, None, slice_index_or, nat_lt, if◌then◌else◌}
 use Rattle.mq_nvme.specs.Says.{journal_reading}
 use Rattle.mq_blocks.specs.Blocks.{block_at}
 use Rattle.mq_blocks.specs.Limits.{depth}
@@ -10,33 +10,12 @@ use Rattle.mq_drive.specs.Fuse.{above, below}
 use Rattle.mq_drive.specs.Start.{IsPortOf}
 use Rattle.mq_drive.specs.declared.role.Role.{Role}
 use Rattle.mq_command_blocks.specs.Commits.{ShowsMap}
-use Rattle.mq_command_blocks.specs.Lines.{line_at, map_after}
+use Rattle.mq_block_trace.specs.Lines.{line_at, map_after}
+use Rattle.mq_block_trace.specs.Prefixes.{IsReached, events_of}
 use Rattle.mq_pmr.specs.Runs.{Items, slots_with, after_some}
 use Rattle.mq_command_blocks.specs.Runs.{IsApart, IsNewIn, after_all}
 use Rattle.mq_block_text.specs.Text.{sets_in}
 use Rattle.mq_block_text.specs.declared.item.BlockItem.{BlockItem}
-
--- The events of a line: each of its copies and its descriptor is staged and completed, and there are
--- the flush, the doorbell write, and the store and the flush of the head.
-abbrev pub line_events : List BlockItem → ℕ
-line_events line = 2 * sets_in line + 6
-
--- the events of the first n lines
-abbrev pub events_of : List (List BlockItem) → ℕ → ℕ
-events_of lines zero = 0
-events_of lines (suc n) = events_of lines n + line_events (line_at lines n)
-
--- After so many events p lines stand: those whose events end by then, or one more where the next
--- line's end with the next event.
-pub record IsReached (lines : List (List BlockItem)) (events p : ℕ) : Type 0 where
-  pub within : p ≤ length lines
-  pub ends : ((events_of lines p ≤ events) × (p < length lines → events < events_of lines (suc p)))
-      ⊎ ((0 < p) × (events + 1 ≡ events_of lines p))
-
--- the lines that stand where the power goes off after so many events, or at the end of the text
-abbrev pub IsPrefixAt : List (List BlockItem) → Option ℕ → ℕ → Type 0
-IsPrefixAt lines None p = p ≡ length lines
-IsPrefixAt lines (Some events) p = IsReached lines events p
 
 -- each image of the queue's port, with a root of base 0, shows as many lines as stand after these
 -- events
@@ -90,11 +69,6 @@ StandsUnder lines (Some limit) tickets doorbell p =
     × (((p ≡ length lines) × (below limit tickets ≡ events_of lines (length lines)))
     ⊎ (IsReached lines (below limit tickets) p × (0 < above limit tickets)
     × (below limit tickets < events_of lines (length lines))))
-
--- the events that happen of a text where the power goes off after so many, or stays on
-abbrev pub events_under : List (List BlockItem) → Option ℕ → ℕ
-events_under lines None = events_of lines (length lines)
-events_under lines (Some cut) = min cut (events_of lines (length lines))
 
 -- ---- in the middle of a transaction
 

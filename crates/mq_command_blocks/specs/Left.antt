@@ -1,4 +1,4 @@
--- The image that the cut leaves of the drive of a block text.
+-- The image that the cut leaves of the drive of a block text, and the trace of the text.
 use Rattle.std.specs.Prelude.{◌≡◌, ℕ, Bool, true, false, List, [], ◌∷◌, Option, Some, None}
 use Rattle.std.specs.declared.vec.Vec.{Vec}
 use Rattle.mq_blocks.specs.Drive.{FuseName, PortImage}
@@ -21,9 +21,11 @@ use Rattle.mq_nvme.specs.Says.{journal_reading}
 use Rattle.mq_outside.specs.Outside.{FilesState}
 use Rattle.mq_block_text.specs.declared.item.BlockItem.{BlockItem}
 use Rattle.mq_command_blocks.specs.Commits.{ShowsMap}
-use Rattle.mq_command_blocks.specs.Cuts.{StandsUnder, events_under, rung_after}
-use Rattle.mq_command_blocks.specs.Fresh.{IsTextGeometry}
-use Rattle.mq_command_blocks.specs.Lines.{map_after}
+use Rattle.mq_block_trace.specs.Prefixes.{events_under}
+use Rattle.mq_command_blocks.specs.Cuts.{StandsUnder, rung_after}
+use Rattle.mq_block_trace.specs.Fresh.{IsTextGeometry}
+use Rattle.mq_block_trace.specs.Lines.{map_after}
+use Rattle.mq_block_trace.specs.Written.{IsTraced}
 
 -- a drive of one queue
 abbrev pub drive_image : Geometry → (queue root : PortImage) → DriveImage
@@ -81,7 +83,23 @@ module _ {Z : Type 0} where
   KeepsLeft false x file = file ≡ None
   KeepsLeft true x file = IsFile (image_bytes x) file
 
+  -- these are the bytes of the trace of the lines
+  abbrev pub IsTraceFile : List (List BlockItem) → Option ℕ → Option (Vec ℕ Z) → Type 0
+  IsTraceFile lines cut None = ⊥
+  IsTraceFile lines cut (Some file) = IsTraced lines cut file.items
+
+  -- the trace is kept where it is wanted
+  abbrev pub KeepsTrace : Bool → List (List BlockItem) → Option ℕ → Option (Vec ℕ Z) → Type 0
+  KeepsTrace false lines cut file = file ≡ None
+  KeepsTrace true lines cut file = IsTraceFile lines cut file
+
 -- the image is saved under the name, where one is given; else nothing changes
 abbrev pub SavesLeft : Option (List ℕ) → DriveImage → (old new : FilesState) → Type 0
 SavesLeft None x old new = new ≡ old
 SavesLeft (Some name) x old new = IsSaved name (image_bytes x) old new
+
+-- the trace of the lines up to the cut is saved under the name, where one is given; else nothing changes
+abbrev pub SavesTrace : Option (List ℕ) → List (List BlockItem) → Option ℕ → (old new : FilesState) → Type 0
+SavesTrace None lines cut old new = new ≡ old
+SavesTrace (Some name) lines cut old new =
+    (bytes : List ℕ) × IsTraced lines cut bytes × IsSaved name bytes old new

@@ -2,9 +2,7 @@ pub mod Blocks
 pub mod Causes
 pub mod Commits
 pub mod Cuts
-pub mod Fresh
 pub mod Left
-pub mod Lines
 pub mod Live
 pub mod Parts
 pub mod Picked

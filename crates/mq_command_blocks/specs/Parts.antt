@@ -27,9 +27,22 @@ module _ {Z : Type 0} where
   SavesFile (Some file) None old new = new ≡ old
   SavesFile (Some file) (Some name) old new = IsSaved name file.items old new
 
-  -- the file is saved and the output said; or why the file is not saved
-  abbrev pub EndsRun : Option (Vec ℕ Z) → List ℕ → Option (List ℕ) → (files new_files : FilesState)
-      → (result : ℕ) → (old new : SinkState) → Type 0
-  EndsRun left output save files new_files result old new =
-      (SavesFile left save files new_files × EndsWith 0 output result old new)
-      ⊎ EndsUnsaved save files new_files result old new
+  -- both files are saved
+  abbrev pub SavesBoth : (left traced : Option (Vec ℕ Z)) → (save trace : Option (List ℕ))
+      → (old new : FilesState) → Type 0
+  SavesBoth left traced save trace old new =
+      (kept : FilesState) × SavesFile left save old kept × SavesFile traced trace kept new
+
+  -- why one of them is not saved is said; the trace comes second
+  abbrev pub EndsHalfway : Option (Vec ℕ Z) → (save trace : Option (List ℕ))
+      → (files new_files : FilesState) → (result : ℕ) → (old new : SinkState) → Type 0
+  EndsHalfway left save trace files new_files result old new =
+      EndsUnsaved save files new_files result old new
+      ⊎ ((kept : FilesState) × SavesFile left save files kept × EndsUnsaved trace kept new_files result old new)
+
+  -- both files are saved and the output said; or why one of them is not saved
+  abbrev pub EndsRun : (left traced : Option (Vec ℕ Z)) → List ℕ → (save trace : Option (List ℕ))
+      → (files new_files : FilesState) → (result : ℕ) → (old new : SinkState) → Type 0
+  EndsRun left traced output save trace files new_files result old new =
+      (SavesBoth left traced save trace files new_files × EndsWith 0 output result old new)
+      ⊎ EndsHalfway left save trace files new_files result old new

@@ -10,7 +10,7 @@ use Rattle.mq_image_ops.specs.declared.recovery.RecoveredImage.{RecoveredImage}
 use Rattle.mq_block_text.specs.declared.item.BlockItem.{BlockItem}
 use Rattle.mq_cli.specs.declared.command.BlocksOptions.{BlocksOptions}
 use Rattle.mq_command_blocks.specs.Left.{IsLeft, IsPickedText}
-use Rattle.mq_command_blocks.specs.Lines.{map_after}
+use Rattle.mq_block_trace.specs.Lines.{map_after}
 use Rattle.mq_command_blocks.specs.Live.{HoldsMap}
 
 -- the pick is 0 where none is given

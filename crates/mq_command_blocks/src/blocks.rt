@@ -3,13 +3,13 @@ ghost use Rattle.std.specs.Prelude.{◌≡◌, ◌<◌, ◌+◌, ℕ, List, ◌^
 ghost use Rattle.mq_blocks.specs.Geometry.{homes_of, queues_of};
 ghost use Rattle.mq_drive.specs.Seats.{name_of};
 ghost use Rattle.mq_command_blocks.specs.Commits.{AllBelow};
-ghost use Rattle.mq_command_blocks.specs.Fresh.{IsTextGeometry};
+ghost use Rattle.mq_block_trace.specs.Fresh.{IsTextGeometry};
 ghost use Rattle.mq_block_text.specs.Text.{IsGoodText};
 ghost use Rattle.mq_command_blocks.specs.Blocks.{IsBlockText, output_of};
-ghost use Rattle.mq_command_blocks.specs.Cuts.{IsPrefixAt};
+ghost use Rattle.mq_block_trace.specs.Prefixes.{IsPrefixAt};
 ghost use Rattle.mq_block_text.specs.declared.refusal.BlockTextCause.{BlockTextCause};
 ghost use Rattle.mq_block_text.specs.Refusals.{IsRefusal, IsRefused, RefusesText};
-ghost use Rattle.mq_command_blocks.specs.Left.{IsCutText, IsFile, IsLeft, IsPickedText, KeepsLeft};
+ghost use Rattle.mq_command_blocks.specs.Left.{IsCutText, IsFile, IsLeft, IsPickedText, IsTraceFile, KeepsLeft, KeepsTrace};
 ghost use Rattle.mq_command_blocks.specs.Picked.{IsPickedLeft, IsRunBy, pick_of};
 ghost use Rattle.mq_cli.specs.Asked.{AreSmall};
 ghost use Rattle.mq_image.specs.Drives.{IsDrive};
@@ -20,6 +20,7 @@ use crate::commit::{TextRefusal, commit_text};
 use crate::live::{live_blocks, live_marks};
 use crate::restart::stands_after;
 use mq_block_text::{BlockItem, BlockText, BlockTextRefusal, print_blocks, read_block_text};
+use mq_block_trace::write_trace;
 use mq_blocks::{Geometry, OutOfMemory};
 use mq_cli::BlocksOptions;
 use mq_drive::{Fuse, FuseSeat};
@@ -110,6 +111,15 @@ pub struct TextRun {
     pub output: Vec<u8>,
     /// The file of the image that the cut left, if it is asked for.
     pub left: Option<Vec<u8>>,
+    /// The trace of the events up to the cut, if it is asked for.
+    pub traced: Option<Vec<u8>>,
+}
+
+/// Which files are asked for beside the text.
+#[derive(Clone, Copy)]
+pub struct Wanted {
+    pub left: bool,
+    pub traced: bool,
 }
 
 // The file of an image, where it is wanted.
@@ -124,17 +134,36 @@ fn left_of(alloc: Global, image: &DriveImage, wanted: bool) -> Result<Option<Vec
     Ok(Some(write_image(alloc, image)?))
 }
 
+// The trace of a text, where it is wanted.
+fn trace_of(
+    alloc: Global,
+    geometry: Geometry,
+    text: &BlockText,
+    cut: Option<u64>,
+    wanted: bool,
+) -> Result<Option<Vec<u8>>, OutOfMemory>
+    requires geometry { IsTextGeometry geometry }
+    requires good { IsGoodText text.now }
+    ensures none { wanted ≡ false → IfOk result (λ r. r ≡ None) }
+    ensures some { wanted ≡ true → IfOk result (λ r. IsTraceFile text.now cut r) }
+{
+    if !wanted {
+        return Ok(None);
+    }
+    Ok(Some(write_trace(alloc, geometry, text, cut)?))
+}
+
 /// Commits a text on a fresh drive, cuts the power after `cut` events or at the end, recovers, and
 /// prints what stands. A first recovery is itself cut after `again` events, if that is given. What
 /// the cuts leave of what is uncertain follows from `pick`. The image that the cut left is kept as a
-/// file, if it is asked for.
+/// file, and so is the trace, each if it is asked for.
 fn run_text(
     alloc: Global,
     text: &BlockText,
     cut: Option<u64>,
     pick: u64,
     again: Option<u64>,
-    wanted: bool,
+    wanted: Wanted,
 ) -> Result<TextRun, OutOfMemory>
     requires good { IsGoodText text.now }
     requires cut { IfSome cut (λ k. k < 2 ^ 63) }
@@ -144,25 +173,30 @@ fn run_text(
         × IsPrefixAt text.now cut p
         × (r.output.items ≡ output_of text.now p)
         × IsRunBy text.now cut again pick p x
-        × KeepsLeft wanted x r.left) }
+        × KeepsLeft wanted.left x r.left
+        × KeepsTrace wanted.traced text.now cut r.traced) }
 {
     let geometry = text_geometry();
     let image = commit_fresh(alloc, geometry, text, cut, pick)?;
-    let left = left_of(alloc, &image, wanted)?;
+    let left = left_of(alloc, &image, wanted.left)?;
+    let traced = trace_of(alloc, geometry, text, cut, wanted.traced)?;
     let standing = stands_after(alloc, image, again, pick)?;
     let marks = live_marks(alloc, text, standing.prefix)?;
     let live = live_blocks(alloc, &standing.blocks, &marks)?;
     let output = print_blocks(alloc, standing.prefix, &live)?;
-    Ok(TextRun { output, left })
+    Ok(TextRun {
+        output,
+        left,
+        traced,
+    })
 }
 
-/// The result of `mqfs blocks` for the bytes of a block text, with the file of the image that the
-/// cut left, if it is asked for.
+/// The result of `mqfs blocks` for the bytes of a block text, with the files that are asked for.
 pub fn run_bytes(
     alloc: Global,
     bytes: &[u8],
     options: BlocksOptions,
-    wanted: bool,
+    wanted: Wanted,
 ) -> Result<TextRun, BlockTextRefusal>
     requires small { AreSmall options }
     ensures ok { IfOk result (λ r. (lines : List (List BlockItem))
@@ -172,7 +206,8 @@ pub fn run_bytes(
         × IsPrefixAt lines options.cut p
         × (r.output.items ≡ output_of lines p)
         × IsRunBy lines options.cut options.again (pick_of options) p x
-        × KeepsLeft wanted x r.left) }
+        × KeepsLeft wanted.left x r.left
+        × KeepsTrace wanted.traced lines options.cut r.traced) }
     ensures refused { IfErr result (IsRefused (RefusesText bytes.now)) }
     ensures exact { (line : ℕ) (cause : BlockTextCause)
         → RefusesText bytes.now line cause

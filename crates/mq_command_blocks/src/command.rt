@@ -4,10 +4,10 @@ ghost use Rattle.std.specs.String.{string_bytes};
 ghost use Rattle.mq_command_io.specs.Ending.{EndsWith, IsUnlessFailed, memory_line};
 ghost use Rattle.mq_cli.specs.Asked.{AreSmall};
 ghost use Rattle.mq_command_blocks.specs.Blocks.{refused_line};
-ghost use Rattle.mq_command_blocks.specs.Parts.{EndsRefused, EndsRun, EndsUnsaved, SavesFile};
+ghost use Rattle.mq_command_blocks.specs.Parts.{EndsHalfway, EndsRefused, EndsRun, EndsUnsaved, SavesBoth, SavesFile};
 ghost use Rattle.mq_command_blocks.specs.SaysOfBlocks.{SaysOfBlocks, TextDecides};
 
-use crate::blocks::{TextRun, run_bytes};
+use crate::blocks::{TextRun, Wanted, run_bytes};
 use mq_block_text::{BlockTextCause, BlockTextRefusal};
 use mq_cli::BlocksOptions;
 use mq_command_io::{DONE, REFUSED, load_or_say, save_or_say, say, say_memory};
@@ -44,49 +44,83 @@ fn say_refusal<K: Sink>(alloc: Global, refusal: BlockTextRefusal, out: &mut K) -
 }
 
 // Saves a file under a name, where both are given.
-fn save_left<F: Files, K: Sink>(
-    left: Option<Vec<u8>>,
-    save: Option<&str>,
+fn save_file<F: Files, K: Sink>(
+    file: Option<Vec<u8>>,
+    name: Option<&str>,
     files: &mut F,
     out: &mut K,
 ) -> Result<(), u8>
-    ensures ok { IfOk result (λ _. SavesFile left (option_map (λ n. n.now) save.entry)
+    ensures ok { IfOk result (λ _. SavesFile file (option_map (λ n. n.now) name.entry)
         (F.state files.old) (F.state files.new)) }
     ensures silent { IfOk result (λ _. K.state out.new ≡ K.state out.old) }
-    ensures refused { IfErr result (λ s. EndsUnsaved (option_map (λ n. n.now) save.entry)
+    ensures refused { IfErr result (λ s. EndsUnsaved (option_map (λ n. n.now) name.entry)
         (F.state files.old) (F.state files.new) s (K.state out.old) (K.state out.new)) }
 {
-    let (Some(name), Some(file)) = (save, left) else {
+    let (Some(name), Some(file)) = (name, file) else {
         return Ok(());
     };
     save_or_say(name, &file, files, out)
 }
 
-// Saves what the cut left, where that is asked, and then says what is printed.
-fn finish<F: Files, K: Sink>(run: TextRun, save: Option<&str>, files: &mut F, out: &mut K) -> u8
-    ensures { EndsRun run.left run.output.items (option_map (λ s. s.now) save.entry)
-        (F.state files.old) (F.state files.new) result (K.state out.old) (K.state out.new) }
+// Saves what the cut left, and then the trace, each where that is asked.
+fn save_both<F: Files, K: Sink>(
+    left: Option<Vec<u8>>,
+    traced: Option<Vec<u8>>,
+    save: Option<&str>,
+    trace: Option<&str>,
+    files: &mut F,
+    out: &mut K,
+) -> Result<(), u8>
+    ensures ok { IfOk result (λ _. SavesBoth left traced (option_map (λ n. n.now) save.entry)
+        (option_map (λ n. n.now) trace.entry) (F.state files.old) (F.state files.new)) }
+    ensures silent { IfOk result (λ _. K.state out.new ≡ K.state out.old) }
+    ensures refused { IfErr result (λ s. EndsHalfway left (option_map (λ n. n.now) save.entry)
+        (option_map (λ n. n.now) trace.entry) (F.state files.old) (F.state files.new) s
+        (K.state out.old) (K.state out.new)) }
 {
-    let TextRun { output, left } = run;
-    match save_left(left, save, files, out) {
+    save_file(left, save, files, out)?;
+    save_file(traced, trace, files, out)
+}
+
+// Saves what the cut left and the trace, where that is asked, and then says what is printed.
+fn finish<F: Files, K: Sink>(
+    run: TextRun,
+    save: Option<&str>,
+    trace: Option<&str>,
+    files: &mut F,
+    out: &mut K,
+) -> u8
+    ensures { EndsRun run.left run.traced run.output.items (option_map (λ s. s.now) save.entry)
+        (option_map (λ s. s.now) trace.entry) (F.state files.old) (F.state files.new) result
+        (K.state out.old) (K.state out.new) }
+{
+    let TextRun {
+        output,
+        left,
+        traced,
+    } = run;
+    match save_both(left, traced, save, trace, files, out) {
         Ok(()) => say(DONE, &output, out),
         Err(status) => status,
     }
 }
 
-/// Runs `blocks FILE` with its options. What the cut left is saved before anything is printed.
+/// Runs `blocks FILE` with its options. What the cut left and the trace are saved, in this order, before
+/// anything is printed.
 pub fn run_blocks<F: Files, K: Sink>(
     alloc: Global,
     file: &str,
     options: BlocksOptions,
     save: Option<&str>,
+    trace: Option<&str>,
     files: &mut F,
     out: &mut K,
 ) -> u8
     requires small { AreSmall options }
     ensures ends { (status : ℕ)
         × (text : List ℕ)
-        × SaysOfBlocks file.now options (option_map (λ s. s.now) save.entry) (F.state files.old) (F.state files.new) status text
+        × SaysOfBlocks file.now options (option_map (λ s. s.now) save.entry)
+        (option_map (λ s. s.now) trace.entry) (F.state files.old) (F.state files.new) status text
         × EndsWith status text result (K.state out.old) (K.state out.new) }
     ensures decided { (status : ℕ)
         → TextDecides file.now (F.state files.old).contents status
@@ -96,8 +130,12 @@ pub fn run_blocks<F: Files, K: Sink>(
         Ok(bytes) => bytes,
         Err(status) => return status,
     };
-    match run_bytes(alloc, &bytes, options, save.is_some()) {
-        Ok(run) => finish(run, save, files, out),
+    let wanted = Wanted {
+        left: save.is_some(),
+        traced: trace.is_some(),
+    };
+    match run_bytes(alloc, &bytes, options, wanted) {
+        Ok(run) => finish(run, save, trace, files, out),
         Err(refusal) => say_refusal(alloc, refusal, out),
     }
 }

@@ -8,8 +8,9 @@ ghost use Rattle.mq_drive.specs.Start.{IsPortOf};
 ghost use Rattle.mq_drive.specs.declared.role.Role.TheVariants.{Queue};
 ghost use Rattle.mq_command_blocks.specs.Causes.{HasTextCause};
 ghost use Rattle.mq_command_blocks.specs.Commits.{IsClean, IsCleanQueue, AllBelow, ShowsMap, ShowsLines};
-ghost use Rattle.mq_command_blocks.specs.Cuts.{HasBounds, HasStopped, QueueShows, ShowsReached, events_of, rung_after};
-ghost use Rattle.mq_command_blocks.specs.Lines.{map_after};
+ghost use Rattle.mq_block_trace.specs.Prefixes.{events_of};
+ghost use Rattle.mq_command_blocks.specs.Cuts.{HasBounds, HasStopped, QueueShows, ShowsReached, rung_after};
+ghost use Rattle.mq_block_trace.specs.Lines.{map_after};
 ghost use Rattle.mq_command_blocks.specs.Ports.{the_queue};
 ghost use Rattle.mq_block_text.specs.Text.{IsGoodText};
 

@@ -1,35 +1,15 @@
 // The items of a transaction: a copy of each block that a line sets, and then the descriptor.
-ghost use Rattle.std.specs.Prelude.{◌≡◌, ◌<◌, ◌≤◌, ◌+◌, ◌^◌, ℕ, length, IfOk, slice_index_or, None};
+ghost use Rattle.std.specs.Prelude.{◌≡◌, ◌<◌, ◌≤◌, ◌+◌, ◌^◌, length, IfOk, slice_index_or, None};
 ghost use Rattle.mq_blocks.specs.Blocks.{filled as content_of};
 ghost use Rattle.mq_command_blocks.specs.Commits.{blocks_in, copies_from, items_of};
-ghost use Rattle.mq_command_blocks.specs.Lines.{set_in, writes_from, named};
+ghost use Rattle.mq_block_trace.specs.Lines.{set_in, writes_from, named};
 ghost use Rattle.mq_block_text.specs.Text.{AreGoodItems};
 
 use mq_area::{Descriptor, write_descriptor};
-use mq_block_text::{BlockItem, BlockLine};
+use mq_block_text::BlockLine;
+use mq_block_trace::{NAMED, fills_of};
 use mq_blocks::{Block, BlockNo, Geometry, Lba, OutOfMemory, QueueNo};
 use std::alloc::Global;
-
-/// Block texts name the blocks below this one.
-pub const NAMED: usize = 256;
-
-/// The byte with which a line fills each block that texts may name.
-pub fn fills_of(alloc: Global, line: &BlockLine) -> Result<Vec<Option<u8>>, OutOfMemory>
-    requires { AreGoodItems line.now }
-    ensures { IfOk result (λ v. (length v.items ≡ 256)
-        × ((b : ℕ) → b < 256 → slice_index_or v.items b None ≡ set_in line.now b)) }
-{
-    let items = line.0.as_slice();
-    let mut fills = vec![in alloc; None; NAMED]?;
-    let mut k = items.len();
-    while k > 0 {
-        k -= 1;
-        if let BlockItem::Set(block, byte) = items[k] {
-            fills[block.0 as usize] = Some(byte);
-        }
-    }
-    Ok(fills)
-}
 
 // The blocks that are filled.
 fn filled_blocks(alloc: Global, fills: &[Option<u8>]) -> Result<Vec<BlockNo>, OutOfMemory>

@@ -1,36 +1,16 @@
 // The blocks that a text leaves, and what stands on them.
-ghost use Rattle.std.specs.Prelude.{◌≡◌, ◌<◌, ◌≤◌, ◌+◌, ℕ, List, length, IfOk, false, slice_index_or};
+ghost use Rattle.std.specs.Prelude.{◌≡◌, ◌<◌, ◌≤◌, ◌+◌, ℕ, List, length, IfOk, slice_index_or};
 ghost use Rattle.mq_blocks.specs.Blocks.{block_at};
 ghost use Rattle.mq_blocks.specs.Machine.{Map};
-ghost use Rattle.mq_command_blocks.specs.Lines.{live_from, map_after, named};
-ghost use Rattle.mq_command_blocks.specs.Live.{AreMarks, HoldsMap, marked};
-ghost use Rattle.mq_block_text.specs.Text.{AreGoodItems, IsGoodText};
+ghost use Rattle.mq_block_trace.specs.Lines.{live_from, map_after, named};
+ghost use Rattle.mq_block_trace.specs.Marks.{AreMarks};
+ghost use Rattle.mq_command_blocks.specs.Live.{HoldsMap};
+ghost use Rattle.mq_block_text.specs.Text.{IsGoodText};
 
-use crate::items::NAMED;
-use mq_block_text::{BlockItem, BlockLine, BlockText};
+use mq_block_text::BlockText;
+use mq_block_trace::{NAMED, mark_line};
 use mq_blocks::{Block, BlockNo, OutOfMemory};
 use std::alloc::Global;
-
-// Marks the blocks that a line sets, and takes the marks of those that it frees.
-fn mark_line(line: &BlockLine, marks: &mut Vec<bool>)
-    requires good { AreGoodItems line.now }
-    requires whole { length marks.old.items ≡ 256 }
-    ensures whole { length marks.new.items ≡ 256 }
-    ensures marks { (b : ℕ)
-        → b < 256
-        → slice_index_or marks.new.items b false ≡ marked line.now b
-        (slice_index_or marks.old.items b false) }
-{
-    let items = line.0.as_slice();
-    let mut k = items.len();
-    while k > 0 {
-        k -= 1;
-        match items[k] {
-            BlockItem::Set(block, _) => marks[block.0 as usize] = true,
-            BlockItem::Free(block) => marks[block.0 as usize] = false,
-        }
-    }
-}
 
 /// For each block that texts may name, whether it is live after the first `count` lines.
 pub fn live_marks(alloc: Global, text: &BlockText, count: u64) -> Result<Vec<bool>, OutOfMemory>

@@ -1,7 +1,6 @@
-use Rattle.std.proofs.Common.{◌≡◌, ℕ, List, [], ◌∷◌, Option, All, length, sym, ◌∙◌, ap, subst, arith}
-use Rattle.mq_blocks.specs.Drive.{FuseName, PortImage}
-use Rattle.mq_drive.specs.Seats.{fuse_of, name_of, tickets_of}
-use Rattle.mq_drive.specs.declared.fuse.FuseSeat.{FuseSeat}
+use Rattle.std.proofs.Common.{◌≡◌, ℕ, List, Option, length, sym, ap, subst, arith}
+use Rattle.mq_blocks.specs.Drive.{PortImage}
+use Rattle.mq_drive.specs.Seats.{name_of, tickets_of}
 use Rattle.mq_command_blocks.specs.Cuts.{StandsUnder}
 use Rattle.mq_command_blocks.specs.Left.{IsLeft}
 use Rattle.mq_command_blocks.proofs.CutsTexts.{IsClosed, doorbell_under, is_closed, prefix_stand}

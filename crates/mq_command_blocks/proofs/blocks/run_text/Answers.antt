@@ -1,14 +1,12 @@
-use Rattle.std.proofs.Common.{◌≡◌, ◌<◌, ℕ, List, length, sym, ◌∙◌, ap, subst, arith}
-use Rattle.mq_blocks.specs.Descriptor.{Descriptor}
+use Rattle.std.proofs.Common.{ℕ, length, sym, ◌∙◌, ap, subst, arith}
 use Rattle.mq_blocks.specs.Geometry.{homes_of}
-use Rattle.mq_blocks.specs.Journal.{stands}
-use Rattle.mq_image_ops.specs.Views.{view_of}
-use Rattle.mq_command_blocks.specs.Lines.{map_after}
-use Rattle.mq_command_blocks.specs.Live.{AreMarks, HoldsMap}
+use Rattle.mq_block_trace.specs.Lines.{map_after}
+use Rattle.mq_block_trace.specs.Marks.{AreMarks}
+use Rattle.mq_command_blocks.specs.Live.{HoldsMap}
 use Rattle.mq_command_blocks.specs.Picked.{IsRestarted, IsRunBy}
 use Rattle.mq_command_blocks.proofs.CutsDrives.{lines_below, text_homes}
 use Rattle.mq_command_blocks.proofs.CutsTexts.{prefix_within, run_output}
-use Rattle.mq_command_blocks.proofs.Left.{keeps_left}
+use Rattle.mq_command_blocks.proofs.Left.{keeps_left, keeps_trace}
 use Rattle.mq_command_blocks.proofs.RestartStanding.{holds_lines}
 use Rattle.mq_command_blocks.proofs.blocks.run_text.Goals as goal
 
@@ -58,5 +56,12 @@ returns c =
       stored = standing.blocks.items;
       restarted = subst (λ (n : ℕ). IsRestarted c.in_ok-image.image c.args.again c.args.pick n standing.blocks.items) holds.prefix_is c.in_ok-standing.ensures.chosen;
       holds = holds.map;
-    } in
-    (image.0, c.in_ok-image.image, image.1, output, run, keeps_left c.args.wanted c.in_ok-image.image c.in_ok-left.left c.in_ok-left.ensures.none c.in_ok-left.ensures.some)
+    } in (
+      image.0,
+      c.in_ok-image.image,
+      image.1,
+      output,
+      run,
+      keeps_left c.args.wanted.left c.in_ok-image.image c.in_ok-left.left c.in_ok-left.ensures.none c.in_ok-left.ensures.some,
+      keeps_trace c.args.wanted.traced lines c.args.cut c.in_ok-traced.traced c.in_ok-traced.ensures.none c.in_ok-traced.ensures.some,
+    )

@@ -18,15 +18,16 @@ returns-in-Ok-run_bytes-clause-ends g c =
     let sink = g.K.Sink.state in
     let ok = c.in-Ok-run_bytes.ensures.ok in
     let load = subst (λ (l : List ℕ). IsLoaded c.args.file.now l (files c.args.files.now) (files c.load_or_say.new.files)) (sym c.deref.ensures.value) c.in-Ok.ensures.ok in
-    ran c.args.file.now c.args.options (option_map (λ (s : Bor (List ℕ)). s.now) c.args.save) c.deref.result.now (files c.args.files.now) (files c.load_or_say.new.files) (files c.finish.new.files) c.finish.result (sink c.args.out.now) (sink c.load_or_say.new.out) (sink c.finish.new.out)
-    load c.in-Ok.ensures.silent ok.0 ok.1 ok.2 c.in-Ok-run_bytes.run'.left c.in-Ok-run_bytes.run'.output.items c.is_some.result ok.3 ok.4 ok.5 ok.6 ok.7 (c.is_some.ensures ∙ sym (some_map (λ (s : Bor (List ℕ)). s.now) c.args.save)) c.finish.ensures
+    ran c.args.file.now c.args.options (option_map (λ (s : Bor (List ℕ)). s.now) c.args.save) (option_map (λ (s : Bor (List ℕ)). s.now) c.args.trace) c.deref.result.now (files c.args.files.now) (files c.load_or_say.new.files) (files c.finish.new.files) c.finish.result (sink c.args.out.now) (sink c.load_or_say.new.out) (sink c.finish.new.out)
+    load c.in-Ok.ensures.silent ok.0 ok.1 ok.2 c.in-Ok-run_bytes.run'.left c.in-Ok-run_bytes.run'.traced c.in-Ok-run_bytes.run'.output.items c.is_some.result c.is_some-2.result ok.3 ok.4 ok.5 ok.6 ok.7 ok.8
+    (c.is_some.ensures ∙ sym (some_map (λ (s : Bor (List ℕ)). s.now) c.args.save)) (c.is_some-2.ensures ∙ sym (some_map (λ (s : Bor (List ℕ)). s.now) c.args.trace)) c.finish.ensures
 
 pub returns-in-Ok-run_bytes-clause-decided : goal.returns-in-Ok-run_bytes-clause-decided
 returns-in-Ok-run_bytes-clause-decided g c = λ wanted decides.
     let files = g.F.Files.state in
     let sink = g.K.Sink.state in
     let ends = returns-in-Ok-run_bytes-clause-ends g c in
-    text_decided c.args.file.now c.args.options (option_map (λ (s : Bor (List ℕ)). s.now) c.args.save) (files c.args.files.now) (files c.finish.new.files) c.finish.result ends.0 ends.1 ends.2
+    text_decided c.args.file.now c.args.options (option_map (λ (s : Bor (List ℕ)). s.now) c.args.save) (option_map (λ (s : Bor (List ℕ)). s.now) c.args.trace) (files c.args.files.now) (files c.finish.new.files) c.finish.result ends.0 ends.1 ends.2
     (unless_wanting ends.0 ends.1 c.finish.result (sink c.args.out.now) (sink c.finish.new.out) ends.3) wanted decides
 
 pub returns-clause-ends : goal.returns-clause-ends
@@ -34,7 +35,7 @@ returns-clause-ends g c =
     let files = g.F.Files.state in
     let sink = g.K.Sink.state in
     let load = subst (λ (l : List ℕ). IsLoaded c.args.file.now l (files c.args.files.now) (files c.load_or_say.new.files)) (sym c.deref.ensures.value) c.in-Ok.ensures.ok in
-    not_run c.args.file.now c.args.options (option_map (λ (s : Bor (List ℕ)). s.now) c.args.save) c.deref.result.now (files c.args.files.now) (files c.load_or_say.new.files) c.say_refusal.result (sink c.args.out.now) (sink c.load_or_say.new.out) (sink c.say_refusal.new.out)
+    not_run c.args.file.now c.args.options (option_map (λ (s : Bor (List ℕ)). s.now) c.args.save) (option_map (λ (s : Bor (List ℕ)). s.now) c.args.trace) c.deref.result.now (files c.args.files.now) (files c.load_or_say.new.files) c.say_refusal.result (sink c.args.out.now) (sink c.load_or_say.new.out) (sink c.say_refusal.new.out)
     load c.in-Ok.ensures.silent c.in-Err-run_bytes.refusal c.in-Err-run_bytes.ensures.refused c.say_refusal.ensures
 
 pub returns-clause-decided : goal.returns-clause-decided
@@ -42,5 +43,5 @@ returns-clause-decided g c = λ wanted decides.
     let files = g.F.Files.state in
     let sink = g.K.Sink.state in
     let ends = returns-clause-ends g c in
-    text_decided c.args.file.now c.args.options (option_map (λ (s : Bor (List ℕ)). s.now) c.args.save) (files c.args.files.now) (files c.load_or_say.new.files) c.say_refusal.result ends.0 ends.1 ends.2
+    text_decided c.args.file.now c.args.options (option_map (λ (s : Bor (List ℕ)). s.now) c.args.save) (option_map (λ (s : Bor (List ℕ)). s.now) c.args.trace) (files c.args.files.now) (files c.load_or_say.new.files) c.say_refusal.result ends.0 ends.1 ends.2
     (unless_wanting ends.0 ends.1 c.say_refusal.result (sink c.args.out.now) (sink c.say_refusal.new.out) ends.3) wanted decides

@@ -5,9 +5,10 @@ use Rattle.mq_blocks.specs.Geometry.{area_lba}
 use Rattle.mq_blocks.specs.declared.geometry.Geometry.{Geometry}
 use Rattle.mq_blocks.specs.Machine.{Writes}
 use Rattle.mq_command_blocks.specs.Commits.{copies_from}
-use Rattle.mq_command_blocks.specs.Lines.{writes_from, named}
+use Rattle.mq_block_trace.specs.Lines.{writes_from, named}
 use Rattle.mq_pmr.specs.Runs.{Items}
-use Rattle.mq_command_blocks.proofs.LinesFills.{Fill, writes_last, copies_none, copies_some}
+use Rattle.mq_block_trace.proofs.LinesFills.{Fill, writes_last}
+use Rattle.mq_command_blocks.proofs.LinesFills.{copies_none, copies_some}
 use Rattle.mq_command_blocks.proofs.items.copies.Goals as goal
 use Rattle.mq_command_blocks.proofs.items.copies.Goals.{in-None, in-Some+in_ok-filled-in-Some+in_ok-push-in-Some}
 

@@ -2,8 +2,9 @@ use Rattle.std.proofs.Common.{◌≡◌, ℕ, ◌+◌, ◌-◌, List, [], ◌∷
 use Rattle.std.proofs.lemmas.List.{append-nil}
 use Rattle.mq_blocks.specs.Machine.{Writes}
 use Rattle.mq_command_blocks.specs.Commits.{blocks_in}
-use Rattle.mq_command_blocks.specs.Lines.{writes_from, named}
-use Rattle.mq_command_blocks.proofs.LinesFills.{Fill, writes_last, blocks_none, blocks_some}
+use Rattle.mq_block_trace.specs.Lines.{writes_from, named}
+use Rattle.mq_block_trace.proofs.LinesFills.{Fill, writes_last}
+use Rattle.mq_command_blocks.proofs.LinesFills.{blocks_none, blocks_some}
 use Rattle.mq_command_blocks.proofs.items.filled_blocks.Goals as goal
 use Rattle.mq_command_blocks.proofs.items.filled_blocks.Goals.{in-None, in-Some+in_ok-push-in-Some}
 

@@ -1,6 +1,6 @@
 use Rattle.std.proofs.Common.{◌≡◌, ◌-◌, ◌++◌, get_or, None}
 use Rattle.mq_command_blocks.specs.Commits.{blocks_in}
-use Rattle.mq_command_blocks.specs.Lines.{writes_from, named}
+use Rattle.mq_block_trace.specs.Lines.{writes_from, named}
 use Rattle.mq_command_blocks.proofs.items.filled_blocks.Given as goal
 
 abbrev pub invariant-loop-b : goal.invariant-loop-b

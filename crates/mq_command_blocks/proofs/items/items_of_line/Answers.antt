@@ -3,7 +3,7 @@ use Rattle.mq_blocks.specs.Descriptor.{journal_form, last_block}
 use Rattle.mq_blocks.specs.Limits.{newest_version}
 use Rattle.mq_blocks.specs.Geometry.{area_lba}
 use Rattle.mq_command_blocks.specs.Commits.{blocks_in, copies_from}
-use Rattle.mq_command_blocks.specs.Lines.{set_in, writes_from, named}
+use Rattle.mq_block_trace.specs.Lines.{set_in, writes_from, named}
 use Rattle.mq_command_blocks.proofs.LinesFills.{length-blocks_few, items_made}
 use Rattle.mq_command_blocks.proofs.items.items_of_line.Goals as goal
 

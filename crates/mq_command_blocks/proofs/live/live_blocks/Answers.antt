@@ -1,7 +1,7 @@
-use Rattle.std.proofs.Common.{ℕ, ◌+◌, ◌-◌, ◌++◌, ◌∷◌, [], get_or, sym, ◌∙◌, ap, List}
+use Rattle.std.proofs.Common.{ℕ, ◌+◌, ◌-◌, ◌++◌, ◌∷◌, [], sym, ◌∙◌, ap, List}
 use Rattle.std.proofs.lemmas.List.{append-nil}
 use Rattle.mq_blocks.specs.Blocks.{block_at}
-use Rattle.mq_command_blocks.specs.Lines.{live_from, named}
+use Rattle.mq_block_trace.specs.Lines.{live_from, named}
 use Rattle.mq_command_blocks.proofs.LiveBlocks.{live_none, live_some, live_last}
 use Rattle.mq_command_blocks.proofs.live.live_blocks.Goals as goal
 use Rattle.mq_command_blocks.proofs.live.live_blocks.Goals.{in-true+in_ok-push-in-true, in-false}

@@ -1,10 +1,11 @@
 use Rattle.std.proofs.Common.{◌≡◌, ◌<◌, ℕ, List, [], length, get_or, take, subst, sym, ◌∙◌, ap, arith}
 use Rattle.std.proofs.lemmas.List.{get_or_default, get_or-take, length-take-le}
-use Rattle.mq_command_blocks.specs.Lines.{map_after}
-use Rattle.mq_command_blocks.specs.Live.{AreMarks}
+use Rattle.mq_block_trace.specs.Lines.{map_after}
+use Rattle.mq_block_trace.specs.Marks.{AreMarks}
 use Rattle.mq_block_text.specs.Text.{AreGoodItems}
 use Rattle.mq_block_text.specs.declared.item.BlockItem.{BlockItem}
-use Rattle.mq_command_blocks.proofs.LiveBlocks.{marks_more, good_line_at}
+use Rattle.mq_block_trace.proofs.LinesFills.{good_line_at}
+use Rattle.mq_block_trace.proofs.MarksLines.{marks_more}
 use Rattle.mq_command_blocks.proofs.live.live_marks.Goals as goal
 
 -- a line among the first ones is that line of the text

@@ -1,6 +1,6 @@
 use Rattle.std.proofs.Common.{◌≡◌, length}
-use Rattle.mq_command_blocks.specs.Lines.{map_after}
-use Rattle.mq_command_blocks.specs.Live.{AreMarks}
+use Rattle.mq_block_trace.specs.Lines.{map_after}
+use Rattle.mq_block_trace.specs.Marks.{AreMarks}
 use Rattle.mq_command_blocks.proofs.live.live_marks.Given as goal
 
 abbrev pub invariant-loop-line : goal.invariant-loop-line

@@ -1,9 +1,9 @@
 use Rattle.std.proofs.Common.{rules, ◌≡◌, ◌<◌, ◌-◌, List, length, subst, sym, ◌∙◌, arith, vec_len}
 use Rattle.mq_block_text.specs.Text.{AreGoodItems}
 use Rattle.mq_block_text.specs.declared.item.BlockItem.{BlockItem}
-use Rattle.mq_command_blocks.proofs.LinesFills.{good_at, good_set}
-use Rattle.mq_command_blocks.proofs.LiveBlocks.{good_free}
-use Rattle.mq_command_blocks.proofs.live.mark_line.Goals as goal
+use Rattle.mq_block_trace.proofs.LinesFills.{good_at, good_set}
+use Rattle.mq_block_trace.proofs.MarksLines.{good_free}
+use Rattle.mq_block_trace.proofs.lines.mark_line.Goals as goal
 
 pub index_mut-requires : goal.index_mut-requires
 index_mut-requires c =

@@ -1,6 +1,6 @@
 use Rattle.std.proofs.Common.{◌≡◌, ◌<◌, ◌≤◌, ℕ, length, drop, get_or, None}
-use Rattle.mq_command_blocks.specs.Lines.{set_in}
-use Rattle.mq_command_blocks.proofs.items.fills_of.Given as goal
+use Rattle.mq_block_trace.specs.Lines.{set_in}
+use Rattle.mq_block_trace.proofs.lines.fills_of.Given as goal
 
 -- the fills are those of the items from k on
 abbrev pub invariant-loop-k : goal.invariant-loop-k

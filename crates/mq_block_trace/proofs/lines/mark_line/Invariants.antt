@@ -1,6 +1,6 @@
 use Rattle.std.proofs.Common.{◌≡◌, ◌<◌, ◌≤◌, ℕ, false, length, drop, get_or}
-use Rattle.mq_command_blocks.specs.Live.{marked}
-use Rattle.mq_command_blocks.proofs.live.mark_line.Given as goal
+use Rattle.mq_block_trace.specs.Marks.{marked}
+use Rattle.mq_block_trace.proofs.lines.mark_line.Given as goal
 
 -- the marks are those after the items from k on
 abbrev pub invariant-loop-k : goal.invariant-loop-k

@@ -1,0 +1,15 @@
+pub mod LinesFills
+pub mod MarksLines
+pub mod Drawn
+pub mod OneQueue
+pub mod Fronts
+pub mod CutOff
+pub mod TextLines
+pub mod Traces
+pub mod Lined
+pub mod Spells
+pub mod ReadAgain
+pub mod PortSteps
+pub mod Pushed
+pub mod StepTexts
+pub mod WriterLines

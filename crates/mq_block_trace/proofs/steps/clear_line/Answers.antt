@@ -1,0 +1,8 @@
+use Rattle.std.proofs.Common.{◌≡◌, List, ℕ, subst}
+use Rattle.std.specs.Prelude.{IfOk}
+use Rattle.std.specs.String.{string_bytes}
+use Rattle.mq_block_trace.proofs.StepTexts.{clear_text}
+use Rattle.mq_block_trace.proofs.steps.clear_line.Goals as goal
+
+pub returns : goal.returns
+returns c = subst (λ (l : List ℕ). IfOk c.format.result (λ s. string_bytes s ≡ l)) (clear_text c.args.number) c.format.ensures.ok

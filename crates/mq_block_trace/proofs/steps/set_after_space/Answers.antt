@@ -1,0 +1,6 @@
+use Rattle.std.proofs.Common.{false}
+use Rattle.std.proofs.lemmas.Fmt.{hex_byte}
+use Rattle.mq_block_trace.proofs.steps.set_after_space.Goals as goal
+
+pub returns : goal.returns
+returns c = simp (c.laid_out.ensures, c.in_radix.ensures, hex_byte false c.args.byte c.ranges.byte.fits) at c.format.ensures.ok

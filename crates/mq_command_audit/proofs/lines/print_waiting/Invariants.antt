@@ -1,0 +1,7 @@
+use Rattle.std.proofs.Common.{◌≡◌, ◌++◌, drop}
+use Rattle.mq_command_audit.specs.Audits.{spaced_line, waiting_line}
+use Rattle.mq_command_audit.proofs.lines.print_waiting.Given as goal
+
+-- what is printed, and the numbers that are left, are all
+abbrev pub invariant-loop-number : goal.invariant-loop-number
+invariant-loop-number l = l.line.items ++ spaced_line (drop l.number-index l.numbers) ≡ waiting_line l.numbers
