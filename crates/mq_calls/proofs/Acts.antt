@@ -25,7 +25,7 @@ use Rattle.mq_turns.specs.declared.rule.Reading.{Reading}
 use Rattle.mq_turns.specs.declared.rule.Report.{Report}
 use Rattle.mq_turns.specs.declared.rule.Charge.{Charge}
 use Rattle.mq_turns.specs.declared.rule.Report.TheVariants.{Off, Sent}
-use Rattle.mq_calls.specs.Acts.{Call, Commits, IsCaused, IsOfCall, IsTurnedDown, LacksArea, Rests, WasCutAt, before, cut, drained, kept, memory}
+use Rattle.mq_calls.specs.Acts.{Call, Commits, IsCaused, IsOfCall, IsToBeDrawn, IsTurnedDown, LacksArea, Rests, WasCutAt, before, cut, drained, kept, memory}
 use Rattle.mq_calls.specs.Calling.{IsEntryFor}
 use Rattle.mq_calls.specs.Committing.{IsObstacle, IsMissed, OnlyReports, ReadsWords, ShowsObstacle, miss_for, reports_for}
 use Rattle.mq_calls.specs.Drawing.{HasDrawn, IsCommitted}
@@ -109,6 +109,9 @@ module _ {P : Type 0} {G : Ghosts P} (state : P → PortState) (faults : P → L
   caused-before old v q c opening seen drawn (kept K s known side is) = kept K s (known-before old v K opening seen drawn known) side is
   caused-before old v q c opening seen drawn (drained K s after known side drains cause) = drained K s after (known-before old v K opening seen drawn known) side drains cause
 
+  pub to-be-drawn-before : (g : Geometry) (c : Call) (old v : Seat P FileEntry G) → v.opening ≡ old.opening → old.seen ≤ v.seen → v.drawn ≡ old.drawn → IsToBeDrawn state faults g c v → IsToBeDrawn state faults g c old
+  to-be-drawn-before g c old v opening seen drawn b = record { known = b.known; from = known-before old v b.known opening seen drawn b.from; done = b.done; is = b.is }
+
   -- the missing room shows on the side
   pub obstacle-shown : (g : Geometry) (c : Call) (old : Seat P FileEntry G) (s : QueueSide P FileEntry G) (v : Seat P FileEntry G) (l : Obstacle) → IsObstacle state faults g c old s v l → ShowsObstacle state faults c.session s v l
   obstacle-shown g c old s v obstacle.Memory lacks = tt
@@ -140,6 +143,7 @@ module _ {P : Type 0} {G : Ghosts P} (state : P → PortState) (faults : P → L
         rests = rests-of old taken v new (reported c.session (report_of cause) ∷ v.reading.charged) holds words only;
         charged = only.charged ∙ ap (λ l. reported c.session (report_of cause) ∷ l) (charges-of old taken v holds words);
         caused = caused-before old v c.session cause (words.opening ∙ holds.opening) (let a = words.seen in let b = holds.seen in omega arith) (words.drawn ∙ holds.drawn) lacks.1;
+        drawable = to-be-drawn-before g c old taken holds.opening (let a = holds.seen in omega arith) holds.drawn lacks.2;
       })
 
   -- a group whose send was cut

@@ -35,7 +35,7 @@ use Rattle.mq_calls.specs.Wanted.{IsSameSession}
 use Rattle.mq_calls.specs.declared.answers.CallCause.{CallCause}
 use Rattle.mq_calls.specs.declared.committing.Miss.{Miss}
 use Rattle.mq_calls.specs.declared.committing.Miss.TheVariants as miss
-use Rattle.mq_calls.proofs.Acts.{caused-before, known-before}
+use Rattle.mq_calls.proofs.Acts.{caused-before, known-before, to-be-drawn-before}
 use Rattle.mq_calls.proofs.Sessions.{called-more}
 use Rattle.mq_calls.proofs.RunsFinding.{done-now, shape-is}
 
@@ -231,6 +231,7 @@ module _ {P : Type 0} {G : Ghosts P} (state : P → PortState) (faults : P → L
     rests = rests-same v m w same k.rests;
     charged = k.charged ∙ ap (λ (z : Seat P FileEntry G). reported c.session (report_of x) ∷ z.reading.charged) same.is;
     caused = caused-before state faults v m c.session x (ap (λ (x : Seat P FileEntry G). x.opening) same.is) same.seen (ap (λ (x : Seat P FileEntry G). x.drawn) same.is) k.caused;
+    drawable = to-be-drawn-before state faults g c v m (ap (λ (x : Seat P FileEntry G). x.opening) same.is) same.seen (ap (λ (x : Seat P FileEntry G). x.drawn) same.is) k.drawable;
   })
   turned-same g c v m w why drawn same (cut {at} k) = cut (record {
     replies = k.replies;

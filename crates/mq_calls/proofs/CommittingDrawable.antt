@@ -10,6 +10,7 @@ use Rattle.mq_blocks.specs.Machine.{write_of}
 use Rattle.mq_blocks.specs.declared.geometry.Geometry.{Geometry}
 use Rattle.mq_blocks.proofs.JournalAmong.{among-contains}
 use Rattle.mq_blocks.proofs.Options.{option-cases}
+use Rattle.mq_checkpoint.specs.Steps.{IsKnownFrom}
 use Rattle.mq_drive.specs.Steps.{PortFault}
 use Rattle.mq_drive.specs.declared.port.Port.{Ghosts}
 use Rattle.mq_exec.specs.declared.outcome.Done.{Done}
@@ -52,7 +53,7 @@ use Rattle.mq_turns.specs.declared.turn.Turn.{Turn}
 use Rattle.mq_turns.specs.declared.turn.Turn.TheVariants.{Page, Root as RootTurn, Side}
 use Rattle.mq_turns.proofs.Lists.{each_without}
 use Rattle.mq_turns.proofs.DeskSeen.{opening_seen}
-use Rattle.mq_calls.specs.Acts.{Call, LacksArea, planned_at}
+use Rattle.mq_calls.specs.Acts.{Call, IsToBeDrawn, LacksArea, planned_at}
 use Rattle.mq_calls.specs.Committing.{HasRead, HoldsCommit, IsObstacle, IsPlacedOn, IsPrepared, HasNoRoom}
 use Rattle.mq_calls.specs.Pages.{HoldsPage, HoldsPages}
 use Rattle.mq_calls.specs.Preparing.{IsEntryReady}
@@ -262,7 +263,26 @@ module _ {P : Type 0} {G : Ghosts P} (state : P → PortState) (faults : P → L
         none = none;
       }
 
-  -- ---- a group that lacks room
+  -- ---- a group that is not drawn
+
+  -- what the session knew when it held the pages was known before it read words
+  known-held : (o : Start P FileEntry G) (q : ℕ) (cells : Cells) (old v : Seat P FileEntry G) (w : QueueSide P FileEntry G) → v.opening ≡ old.opening → old.seen ≤ v.seen → v.drawn ≡ old.drawn → (holds : HoldsCommit state faults o q cells w v) → IsKnownFrom state faults file_group old holds.seen.0
+  known-held o q cells old v w opening seen drawn holds =
+      let sees = holds.seen.1 in
+      known-before state faults old v holds.seen.0 opening seen drawn (record { opening = sees.opening; ok = sees.ok; seen = sees.seen; drew = sees.drew })
+
+  -- a group that is done on the pages in hand, changes something and is not too large is to be drawn
+  pub to-be-drawn : (o : Start P FileEntry G) (g : Geometry) (c : Call) (done : Done) (cells : Cells) (old v : Seat P FileEntry G) (w : QueueSide P FileEntry G) → v.opening ≡ Some o → geometry_at state faults o ≡ g → v.opening ≡ old.opening → old.seen ≤ v.seen → v.drawn ≡ old.drawn → HoldsCommit state faults o c.session cells w v → IsDoneOnCells g c.session c.requests cells done → length done.writes.items ≤ write_limit g → Changes done.writes.items done.frees.items → IsToBeDrawn state faults g c old
+  to-be-drawn o g c done cells old v w opening shape same seen drawn holds on few change = record {
+    known = holds.seen.0;
+    from = known-held o c.session cells old v w same seen drawn holds;
+    done = done;
+    is = record {
+      does = does-now state faults o g c.session cells w v c.requests done opening shape holds on holds.seen.0 holds.seen.1;
+      changes = change;
+      few = few;
+    };
+  }
 
   lacks-area : (o : Start P FileEntry G) (g : Geometry) (c : Call) (done : Done) (plan : Placed) (reads : WordsRead) (cells : Cells) (old v : Seat P FileEntry G) (w : QueueSide P FileEntry G) → v.opening ≡ Some o → geometry_at state faults o ≡ g → w.pmr.geometry ≡ g → HoldsCommit state faults o c.session cells w v → IsDoneOnCells g c.session c.requests cells done → length done.writes.items ≤ write_limit g → Changes done.writes.items done.frees.items → HasRead reads old v → IsPlacedOn g c.session reads cells done.writes.items plan → FitIs (area_of w.pmr.geometry) reads.base (rows_of w.stored.items) (state w.pmr.port) plan Area → LacksArea state faults g c old v
   lacks-area o g c done plan reads cells old v w opening shape drive holds on few change read placement lacks =
@@ -272,15 +292,17 @@ module _ {P : Type 0} {G : Ghosts P} (state : P → PortState) (faults : P → L
       let base_read = read.base in
       record {
         known = K;
-        from = known-before state faults old v K read.words.opening read.words.seen read.words.drawn (record { opening = sees.opening; ok = sees.ok; seen = sees.seen; drew = sees.drew });
+        from = known-held o c.session cells old v w read.words.opening read.words.seen read.words.drawn holds;
         reads = reads;
         answers = read.answers;
         plan = plan;
         placed = record {
           done = done;
-          does = does-now state faults o g c.session cells w v c.requests done opening shape holds on K sees;
-          changes = change;
-          few = few;
+          is = record {
+            does = does-now state faults o g c.session cells w v c.requests done opening shape holds on K sees;
+            changes = change;
+            few = few;
+          };
           front_low = front_claimed (file_values state faults) file_group reads.front K sees.ok (let l = sees.reader.last in omega arith) (λ m d at low. sees.reader.done m d at (omega arith));
           base_low = (let l = sees.reader.base in omega arith);
           placed = placed-now state faults o g c.session cells w v c.requests done opening shape holds on plan reads.front reads.base K sees placement;
@@ -293,4 +315,4 @@ module _ {P : Type 0} {G : Ghosts P} (state : P → PortState) (faults : P → L
   pub lacks-room : (o : Start P FileEntry G) (g : Geometry) (c : Call) (done : Done) (plan : Placed) (reads : WordsRead) (cells : Cells) (old v : Seat P FileEntry G) (w : QueueSide P FileEntry G) → v.opening ≡ Some o → geometry_at state faults o ≡ g → w.pmr.geometry ≡ g → HoldsCommit state faults o c.session cells w v → IsDoneOnCells g c.session c.requests cells done → length done.writes.items ≤ write_limit g → Changes done.writes.items done.frees.items → HasRead reads old v → IsPlacedOn g c.session reads cells done.writes.items plan → (l : Obstacle) → HasNoRoom state faults c.session reads.base plan w v l → IsObstacle state faults g c old w v l
   lacks-room o g c done plan reads cells old v w opening shape drive holds on few change read placement obstacle.Memory lacks = absurd lacks
   lacks-room o g c done plan reads cells old v w opening shape drive holds on few change read placement obstacle.Area lacks = lacks-area o g c done plan reads cells old v w opening shape drive holds on few change read placement lacks
-  lacks-room o g c done plan reads cells old v w opening shape drive holds on few change read placement (obstacle.Drive cause) lacks = lacks
+  lacks-room o g c done plan reads cells old v w opening shape drive holds on few change read placement (obstacle.Drive cause) lacks = (lacks.0, lacks.1, to-be-drawn o g c done cells old v w opening shape read.words.opening read.words.seen read.words.drawn holds on few change)

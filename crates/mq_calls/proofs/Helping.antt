@@ -1,6 +1,7 @@
--- What a drain beside the calls leaves of who made it.
-use Rattle.std.proofs.Common.{◌≡◌, ℕ, ◌≤◌, List, [], ◌∷◌, sym, refl, ap, subst, ◌∙◌, arith}
-use Rattle.std.specs.Prelude.{Result, Ok, Err, OnOk, IfErr}
+-- Why a drain beside the calls was answered so, and what it leaves of who made it.
+use Rattle.std.proofs.Common.{◌≡◌, ℕ, List, [], sym, refl, ap, subst, ◌∙◌, arith}
+use Rattle.std.specs.Prelude.{Option, Some, None, Result, Ok, Err, OnOk, IfErr}
+use Rattle.std.proofs.lemmas.Option.{same_Some}
 use Rattle.mq_blocks.specs.Drive.{PortState}
 use Rattle.mq_blocks.specs.declared.geometry.Geometry.{Geometry}
 use Rattle.mq_drive.specs.Steps.{PortFault}
@@ -9,15 +10,83 @@ use Rattle.mq_file_entries.specs.Group.{file_group}
 use Rattle.mq_file_entries.specs.declared.entry.FileEntry.{FileEntry}
 use Rattle.mq_journal.specs.Draining.{RefusesDrain}
 use Rattle.mq_journal.specs.Numbers.{Seat}
+use Rattle.mq_journal.specs.Settling.{WasSettled}
 use Rattle.mq_journal.specs.Sweeping.{HasSwept}
 use Rattle.mq_pages.specs.Held.{HeldCells}
+use Rattle.mq_queue_side.specs.Drained.{DrainCause, Drains, Failures, kept_after}
+use Rattle.mq_queue_side.specs.Side.{SideState, side_state}
 use Rattle.mq_queue_side.specs.declared.answers.Cause.{Cause}
+use Rattle.mq_queue_side.specs.declared.answers.Cause.TheVariants as cause
+use Rattle.mq_queue_side.specs.declared.answers.Why.{Why}
 use Rattle.mq_calls.specs.Acts.{GoesOn}
-use Rattle.mq_calls.specs.Helpers.{IsAtEase}
+use Rattle.mq_calls.specs.Helpers.{HasSettled, IsAtEase, IsCausedBy}
 use Rattle.mq_calls.specs.Sessions.{IsReady}
 use Rattle.mq_calls.proofs.ActsGoingOn.{goes-swept}
 
+-- ---- the causes of an answer
+
+-- a drain by which no failure was taken leaves what the side had kept
+kept-same : (kept now : Option (ℕ × Why)) (failures : Failures) → failures ≡ [] → now ≡ kept_after kept failures → now ≡ kept
+kept-same kept now failures none is = is ∙ ap (kept_after kept) none
+
+some-not-none : {A : Type 0} (x : Option A) (y : A) → x ≡ Some y → x ≡ None → ⊥
+some-not-none x y some none = let e : None ≡ Some y = sym none ∙ some in absurd (cc)
+
+stopped-same : (a b : ℕ) (v w : Why) → ◌≡◌ {A = Option (ℕ × Why)} (Some (a, v)) (Some (b, w)) → ◌≡◌ {A = Result ℕ Cause} (Err (cause.Stopped a v)) (Err (cause.Stopped b w))
+stopped-same a b v w e =
+    let same : ◌≡◌ {A = ℕ × Why} (a, v) (b, w) = same_Some _ _ e in
+    ap (λ (k : ℕ × Why). Err (cause.Stopped k.0 k.1)) same
+
+stopped-kept : (a b : ℕ) (v w : Why) → ◌≡◌ {A = Result ℕ Cause} (Err (cause.Stopped a v)) (Err (cause.Stopped b w)) → ◌≡◌ {A = Option (ℕ × Why)} (Some (a, v)) (Some (b, w))
+stopped-kept a b v w e =
+    let at : a ≡ b = cc in
+    let why : v ≡ w = cc in
+    subst (λ (k : ℕ). ◌≡◌ {A = Option (ℕ × Why)} (Some (a, v)) (Some (k, w))) at (subst (λ (y : Why). ◌≡◌ {A = Option (ℕ × Why)} (Some (a, v)) (Some (a, y))) why refl)
+
+pub caused-by : (answer : Result ℕ Cause) (old new : SideState) → Drains old answer new → DrainCause answer old.faults new.faults → IsCausedBy old.kept old.faults new.faults answer
+caused-by (Ok n) old new d c =
+    let kept : new.kept ≡ old.kept = kept-same old.kept new.kept d.failures d.ends.0 d.takes.kept in
+    record {
+      off = λ e. absurd (cc);
+      failed = λ tx status e. absurd (cc);
+      stopped = λ tx why e. absurd (cc);
+      stops = λ tx why some calm. absurd (some-not-none new.kept (tx, why) (kept ∙ some) d.ends.1);
+      not_home = λ block status e. absurd (cc);
+    }
+caused-by (Err cause.Off) old new d c = record {
+  off = λ e. c;
+  failed = λ tx status e. absurd (cc);
+  stopped = λ tx why e. absurd (cc);
+  stops = λ tx why some calm. absurd (calm c);
+  not_home = λ block status e. absurd (cc);
+}
+caused-by (Err (cause.Failed tx status)) old new d c = record {
+  off = λ e. absurd (cc);
+  failed = λ tx status e. c;
+  stopped = λ tx why e. absurd (cc);
+  stops = λ tx why some calm. absurd (calm c);
+  not_home = λ block status e. absurd (cc);
+}
+caused-by (Err (cause.Stopped at w)) old new d c =
+    let kept : old.kept ≡ Some (at, w) = sym (kept-same old.kept new.kept d.failures d.ends.0 d.takes.kept) ∙ d.ends.1 in
+    record {
+      off = λ e. absurd (cc);
+      failed = λ tx status e. absurd (cc);
+      stopped = λ tx why e. (kept ∙ stopped-kept at tx w why e, c);
+      stops = λ tx why some calm. stopped-same at tx w why (sym kept ∙ some);
+      not_home = λ block status e. absurd (cc);
+    }
+caused-by (Err (cause.FailedHome block status)) old new d c = absurd c
+
 module _ {P : Type 0} {G : Ghosts P} (state : P → PortState) (faults : P → List PortFault) where
+  pub has-settled : (q : ℕ) (answer : Result ℕ Cause) (v w : Seat P FileEntry G) → WasSettled state faults file_group q v w answer → HasSettled state faults q v w answer
+  has-settled q answer v w was = record {
+    was = was;
+    caused = caused-by answer (side_state state faults was.side) (side_state state faults was.after) was.drains was.cause;
+  }
+
+  -- ---- the session or the helper after it
+
   -- nothing but its hand and its reading has changed
   abbrev pub OnlyRead : Seat P FileEntry G → Seat P FileEntry G → Type 0
   OnlyRead v w = w ≡ record v { hand = 0; reading = w.reading }

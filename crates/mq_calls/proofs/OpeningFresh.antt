@@ -1,5 +1,5 @@
 -- A desk that is opened over ports on which nothing has happened yet is fresh.
-use Rattle.std.proofs.Common.{◌≡◌, ℕ, ◌+◌, ◌<◌, List, [], ◌∷◌, length, get_or, map, refl, sym, ap, subst, ◌∙◌, inl, inr, arith}
+use Rattle.std.proofs.Common.{◌≡◌, ℕ, zero, suc, ◌+◌, ◌<◌, List, [], ◌∷◌, ◌++◌, length, get_or, map, refl, sym, ap, subst, ◌∙◌, inl, inr, arith}
 use Rattle.std.specs.Prelude.{Option, Some, None, slice_get}
 use Rattle.std.specs.List.{All}
 use Rattle.std.specs.Option.{option_map}
@@ -40,6 +40,7 @@ use Rattle.mq_queue_side.proofs.Counts.{same-none}
 use Rattle.mq_tree.specs.Laid.{map_of}
 use Rattle.mq_tree.proofs.LaidMaps.{mapped}
 use Rattle.mq_turns.specs.Desk.{fresh}
+use Rattle.mq_calls.specs.Helpers.{IsNewHelper}
 use Rattle.mq_calls.specs.Opening.{IsEquipped, IsNewSession, IsNewSide, IsOpenedOver, IsUncalled, MayOpen, first_cells, stored_map}
 use Rattle.mq_calls.specs.Runs.{file_values, geometry_at}
 use Rattle.mq_calls.specs.Sessions.{HasCalled}
@@ -148,7 +149,7 @@ module _ {P : Type 0} {G : Ghosts P} (state : P → PortState) (faults : P → L
 pub sides-count : {P E : Type 0} {G : Ghosts P} (state : P → PortState) (g : Geometry) (ports : Ports P) (s : Standing) (sides : List (QueueSide P E G)) → MayOpen g (drive_of state ports) s → map (λ q. q.pmr.port) sides ≡ ports.queues.items → length sides ≡ queues_of g
 sides-count {P = P} {E = E} {G = G} state g ports s sides may queues = sym (length-map sides (λ (w : QueueSide P E G). w.pmr.port)) ∙ (ap length queues ∙ count-is g state ports.queues.items (state ports.root) (stored_map g s.blocks.items) may.start)
 
--- ---- the sessions
+-- ---- the sessions and the helpers
 
 pub all-at : {A : Type 0} (F : A → Type 0) (xs : List A) (i : ℕ) (x : A) → All F xs → slice_get xs i ≡ Some x → F x
 all-at F xs i x all e = subst F (get_or_from_slice_get xs i x x e) (all i x (slice_get_within xs i x e))
@@ -156,6 +157,20 @@ all-at F xs i x all e = subst F (get_or_from_slice_get xs i x x e) (all i x (sli
 -- what stands at a place of a list that is made by a function
 pub map-place : {A B : Type 0} (f : A → B) (xs : List A) (ys : List B) (i : ℕ) (x : A) → map f xs ≡ ys → slice_get xs i ≡ Some x → slice_get ys i ≡ Some (f x)
 map-place {B = B} f xs ys i x made e = ap (λ (zs : List B). slice_get zs i) (sym made) ∙ (slice_get-map f xs i ∙ ap (option_map f) e)
+
+-- what stands at a place of the first one of two lists, and at a place of the second one
+pub get-first : {A : Type 0} (xs ys : List A) (i : ℕ) (x : A) → slice_get xs i ≡ Some x → slice_get (xs ++ ys) i ≡ Some x
+get-first [] ys i x e = absurd (cc)
+get-first (y ∷ xs) ys zero x e = e
+get-first (y ∷ xs) ys (suc i) x e = get-first xs ys i x e
+
+pub get-second : {A : Type 0} (xs ys : List A) (i : ℕ) (y : A) → slice_get ys i ≡ Some y → slice_get (xs ++ ys) (length xs + i) ≡ Some y
+get-second {A = A} [] ys i y e =
+    let place : length {A = A} [] + i ≡ i = omega arith in
+    ap (λ (k : ℕ). slice_get ys k) place ∙ e
+get-second (x ∷ xs) ys i y e =
+    let place : suc (length xs) + i ≡ suc (length xs + i) = omega arith in
+    ap (λ (k : ℕ). slice_get (x ∷ (xs ++ ys)) k) place ∙ get-second xs ys i y e
 
 module _ {P : Type 0} {G : Ghosts P} where
   pub new-session : (g : Geometry) (o : Start P FileEntry G) (i queue calls : ℕ) (wanted : List ℕ) (cells : HeldCells) (v : Seat P FileEntry G) → i < queues_of g → v ≡ fresh o i → IsUncalled i queue calls wanted → IsEquipped g cells → IsNewSession g o i queue calls wanted cells v
@@ -171,5 +186,15 @@ module _ {P : Type 0} {G : Ghosts P} where
       called = subst (λ (w : Seat P FileEntry G). HasCalled 0 w) (sym is) (record { drawn = tt; read = tt; few = omega arith });
       none = equipped.none;
       room = equipped.room;
+    };
+  }
+
+  pub new-helper : (o : Start P FileEntry G) (i : ℕ) (v : Seat P FileEntry G) → v ≡ fresh o i → IsNewHelper o i v
+  new-helper o i v is = record {
+    view_is = is;
+    ease = record {
+      idle = ap (λ (w : Seat P FileEntry G). w.held) is;
+      drawn = ap (λ (w : Seat P FileEntry G). w.drawn) is;
+      read = ap (λ (w : Seat P FileEntry G). w.read) is;
     };
   }

@@ -165,12 +165,27 @@ module _ {P : Type 0} {G : Ghosts P} (state : P → PortState) (faults : P → L
         → Drains (side_state state faults s) (Err c) (side_state state faults after)
         → DrainCause (Err c) (faults s.pmr.port) (faults after.pmr.port) → IsCaused v q c
 
-  -- A port's refusal before the group drew a number. It is charged to the port of the queue, and nothing
-  -- else is.
-  pub record Refuses (q : ℕ) (c : Cause) (old new : Seat P FileEntry G) : Type 0 where
+  -- On the map at the newest number of what was known, the group of the call comes to this: it changes
+  -- something, and writes no more than a transaction may.
+  pub record IsDrawable (g : Geometry) (c : Call) (K : Shared P FileEntry G) (done : Done) : Type 0 where
+    pub does : DoneOn g c.session (map_now (file_values state faults) file_group K) c.requests done
+    pub changes : Changes done.writes.items done.frees.items
+    pub few : length done.writes.items ≤ write_limit g
+
+  -- So it does by what was known since then.
+  pub record IsToBeDrawn (g : Geometry) (c : Call) (v : Seat P FileEntry G) : Type 0 where
+    pub known : Shared P FileEntry G
+    pub from : IsKnownFrom state faults file_group v known
+    pub done : Done
+    pub is : IsDrawable g c known done
+
+  -- A port's refusal before the group, which was to be drawn, drew a number. It is charged to the port of
+  -- the queue, and nothing else is.
+  pub record Refuses (g : Geometry) (c : Call) (why : Cause) (old new : Seat P FileEntry G) : Type 0 where
     pub rests : Rests old new
-    pub charged : new.reading.charged ≡ reported q (report_of c) ∷ old.reading.charged
-    pub caused : IsCaused old q c
+    pub charged : new.reading.charged ≡ reported c.session (report_of why) ∷ old.reading.charged
+    pub caused : IsCaused old c.session why
+    pub drawable : IsToBeDrawn g c old
 
   -- The send of the number, which is above all that the session had seen, was cut on a side, whose port
   -- gained an `Off` by it.
@@ -196,7 +211,7 @@ module _ {P : Type 0} {G : Ghosts P} (state : P → PortState) (faults : P → L
     memory : KeepsAll old new → IsTurnedDown g c old new refused.OutOfMemory None
     too_large : {count limit : ℕ} → IsTooLarge g c count limit old new
         → IsTurnedDown g c old new (refused.TooLarge count limit) None
-    before : {why : Cause} → Refuses c.session why old new
+    before : {why : Cause} → Refuses g c why old new
         → IsTurnedDown g c old new (refused.Drive why) None
     cut : {at : ℕ} → IsCut g c at old new → IsTurnedDown g c old new (refused.Drive cause.Off) (Some at)
 
@@ -208,15 +223,12 @@ module _ {P : Type 0} {G : Ghosts P} (state : P → PortState) (faults : P → L
       map (planned_by (start_of (file_values state faults) file_group K.opening) K.opening.base
       (history_of (file_values state faults) file_group K)) writes
 
-  -- On the map at the newest number of what was known, the group of the call comes to this: it changes
-  -- something, and writes no more than a transaction may. The rule places what it writes so, by a front and
-  -- a base that had been read.
+  -- By what was known the group of the call is drawable. The rule places what it writes so, by a front and a
+  -- base that had been read.
   pub record IsPlacedAt (g : Geometry) (c : Call) (K : Shared P FileEntry G) (reads : WordsRead)
       (plan : Placed) : Type 0 where
     pub done : Done
-    pub does : DoneOn g c.session (map_now (file_values state faults) file_group K) c.requests done
-    pub changes : Changes done.writes.items done.frees.items
-    pub few : length done.writes.items ≤ write_limit g
+    pub is : IsDrawable g c K done
     pub front_low : reads.front ≤ front (core_of (file_values state faults) file_group K)
     pub base_low : reads.base ≤ K.word
     pub placed : IsPlacement g c.session reads.front reads.base (planned_at K done.writes.items) plan

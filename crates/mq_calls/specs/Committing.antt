@@ -29,7 +29,7 @@ use Rattle.mq_turns.specs.Lists.{tick, times}
 use Rattle.mq_turns.specs.declared.rule.MarkAnswer.TheVariants.{Base, Front}
 use Rattle.mq_turns.specs.declared.rule.Charge.{Charge}
 use Rattle.mq_turns.specs.declared.turn.Turn.TheVariants.{Side}
-use Rattle.mq_calls.specs.Acts.{Call, IsAreaFull, IsCaused, IsTurnedDown, LacksArea}
+use Rattle.mq_calls.specs.Acts.{Call, IsAreaFull, IsCaused, IsToBeDrawn, IsTurnedDown, LacksArea}
 use Rattle.mq_calls.specs.Calling.{IsEntryFor}
 use Rattle.mq_calls.specs.Pages.{HoldsPages, IsSeen}
 use Rattle.mq_calls.specs.Runs.{files}
@@ -117,7 +117,7 @@ module _ {P : Type 0} {G : Ghosts P} (state : P → PortState) (faults : P → L
 
   -- Why the commit of the call is not prepared, and what stands behind that: the plan of its group does not
   -- fit the journal area of the queue; or the side shows what will be reported of its port, and had come to
-  -- it in hand.
+  -- it in hand, and the group was to be drawn.
   abbrev pub IsObstacle : Geometry → Call → (old : Seat P FileEntry G) → QueueSide P FileEntry G
       → Seat P FileEntry G → Obstacle → Type 0
   IsObstacle g c old s v obstacle.Memory = Unit {0}
@@ -125,6 +125,7 @@ module _ {P : Type 0} {G : Ghosts P} (state : P → PortState) (faults : P → L
   IsObstacle g c old s v (obstacle.Drive cause) =
       ShowsReport state faults file_group c.session (report_of cause) s v
       × IsCaused state faults v c.session cause
+      × IsToBeDrawn state faults g c old
 
   -- The side shows what will be reported of its port.
   abbrev pub ShowsObstacle : (queue : ℕ) → QueueSide P FileEntry G → Seat P FileEntry G → Obstacle → Type 0

@@ -1,25 +1,32 @@
 // A file system gives its desk back.
-ghost use Rattle.std.specs.Prelude.{◌≡◌, ◌≤◌, [], IfOk, IfErr, map, vec_len, vec_capacity};
+ghost use Rattle.std.specs.Prelude.{◌≡◌, ◌≤◌, ◌+◌, ◌++◌, [], IfOk, IfErr, map, vec_len, vec_capacity};
 ghost use Rattle.std.specs.List.{All};
 ghost use Rattle.mq_turns.specs.AtDesk.{AtDesk, chairs_of};
 
 use crate::machine::FileMachine;
 use crate::session::{Mqfs, Session};
+use crate::settling::Helper;
 use mq_blocks::OutOfMemory;
 use mq_drive::Port;
 use mq_turns::{Chair, Desk};
 use std::alloc::Global;
 
-// The chairs of sessions, in their order.
+// The chairs of sessions and then of helpers, both in their order.
 fn leave<P: Port + Drop>(
     sessions: Vec<Session<P>>,
+    helpers: Vec<Helper<P>>,
     chairs: Vec<Chair<FileMachine<P>>>,
 ) -> Vec<Chair<FileMachine<P>>>
-    requires { (chairs.items ≡ []) × (vec_len sessions ≤ vec_capacity chairs) }
-    ensures { result.items ≡ map (λ s. s.chair) sessions.items }
+    requires { (chairs.items ≡ []) × (vec_len sessions + vec_len helpers ≤ vec_capacity chairs) }
+    ensures { result.items ≡ map (λ s. s.chair) sessions.items ++ map (λ h. h.chair) helpers.items }
 {
     let mut sessions = sessions;
+    let mut helpers = helpers;
     let mut chairs = chairs;
+    while let Some(helper) = helpers.pop() {
+        let Helper { chair } = helper;
+        chairs.push_reserved(chair);
+    }
     while let Some(session) = sessions.pop() {
         let Session { chair, .. } = session;
         chairs.push_reserved(chair);
@@ -29,28 +36,31 @@ fn leave<P: Port + Drop>(
 }
 
 impl<P: Port + Drop> Mqfs<P> {
-    /// The desk, and the chairs of all its sessions, in their order. On out of memory everything is given
-    /// back as it was.
+    /// The desk, and the chairs of all its sessions and then of all its helpers, both in their order. On out
+    /// of memory everything is given back as it was.
     pub fn into_desk(
         self,
         alloc: Global,
         sessions: Vec<Session<P>>,
+        helpers: Vec<Helper<P>>,
     ) -> Result<
         (Desk<FileMachine<P>>, Vec<Chair<FileMachine<P>>>),
-        (Mqfs<P>, Vec<Session<P>>, OutOfMemory),
+        (Mqfs<P>, Vec<Session<P>>, Vec<Helper<P>>, OutOfMemory),
     >
         requires at { All (λ s. AtDesk self.desk s.chair) sessions.items }
-        requires all { vec_len sessions ≡ chairs_of self.desk }
+        requires helpers { All (λ h. AtDesk self.desk h.chair) helpers.items }
+        requires all { vec_len sessions + vec_len helpers ≡ chairs_of self.desk }
         ensures desk { IfOk result (λ r. r.0 ≡ self.desk) }
-        ensures chairs { IfOk result (λ r. r.1.items ≡ map (λ s. s.chair) sessions.items) }
+        ensures chairs { IfOk result (λ r. r.1.items
+            ≡ map (λ s. s.chair) sessions.items ++ map (λ h. h.chair) helpers.items) }
         ensures at { IfOk result (λ r. All (λ c. AtDesk r.0 c) r.1.items) }
         ensures all { IfOk result (λ r. vec_len r.1 ≡ chairs_of r.0) }
-        ensures err { IfErr result (λ e. (e.0 ≡ self) × (e.1 ≡ sessions)) }
+        ensures err { IfErr result (λ e. (e.0 ≡ self) × (e.1 ≡ sessions) × (e.2 ≡ helpers)) }
     {
-        let Ok(chairs) = Vec::with_capacity(alloc, sessions.len()) else {
-            return Err((self, sessions, OutOfMemory));
+        let Ok(chairs) = Vec::with_capacity(alloc, sessions.len() + helpers.len()) else {
+            return Err((self, sessions, helpers, OutOfMemory));
         };
         let Mqfs { desk, .. } = self;
-        Ok((desk, leave(sessions, chairs)))
+        Ok((desk, leave(sessions, helpers, chairs)))
     }
 }

@@ -1,12 +1,10 @@
 // The sides of queues are drained beside the calls of sessions.
 ghost use Rattle.std.specs.Prelude.{◌≡◌, ◌<◌, IfErr, [], length};
 ghost use Rattle.mq_blocks.specs.Geometry.{queues_of};
-ghost use Rattle.mq_file_entries.specs.Group.{file_group};
 ghost use Rattle.mq_journal.specs.Draining.{RefusesDrain};
-ghost use Rattle.mq_journal.specs.Settling.{WasSettled};
 ghost use Rattle.mq_turns.specs.AtDesk.{AtDesk, view};
 ghost use Rattle.mq_calls.specs.Acts.{GoesOn};
-ghost use Rattle.mq_calls.specs.Helpers.{IsAtEase};
+ghost use Rattle.mq_calls.specs.Helpers.{HasSettled, IsAtEase};
 ghost use Rattle.mq_calls.specs.Sessions.{IsReady};
 
 use crate::machine::FileMachine;
@@ -43,8 +41,8 @@ impl<P: Port + Drop> Mqfs<P> {
         ensures desk { AtDesk self.now.desk helper.new.chair }
         ensures ready { IsAtEase (view helper.new.chair) }
         ensures goes { GoesOn (view helper.old.chair) (view helper.new.chair) }
-        ensures settled { WasSettled P.state P.faults file_group queue (view helper.old.chair)
-            (view helper.new.chair) result }
+        ensures settled { HasSettled P.state P.faults queue (view helper.old.chair) (view helper.new.chair)
+            result }
         ensures refused { IfErr result (λ c. RefusesDrain queue c (view helper.old.chair)
             (view helper.new.chair)) }
     {
@@ -62,7 +60,7 @@ impl<P: Port + Drop> Mqfs<P> {
         ensures queue { session.new.queue ≡ session.old.queue }
         ensures calls { session.new.calls ≡ session.old.calls }
         ensures goes { GoesOn (view session.old.chair) (view session.new.chair) }
-        ensures settled { WasSettled P.state P.faults file_group session.old.queue (view session.old.chair)
+        ensures settled { HasSettled P.state P.faults session.old.queue (view session.old.chair)
             (view session.new.chair) result }
         ensures refused { IfErr result (λ c. RefusesDrain session.old.queue c (view session.old.chair)
             (view session.new.chair)) }

@@ -33,9 +33,9 @@ fn pause<R: Wait>(rt: &R, sleep: &Parker, backoff: &Backoff) {
 }
 
 impl HelperEnd {
-    /// Takes notices and serves each, until it has the last one, or as many as there can be. It waits while
-    /// the queue is empty, so it returns only once the session has finished. It may run after the session
-    /// on the same thread.
+    /// Sleeps until the session wakes it, and then takes notices and serves each, until it has the last one,
+    /// or as many as there can be. It waits while the queue is empty, so it returns only once the session has
+    /// finished. It may run after the session on the same thread.
     pub fn help<C, S: Serve<C>, R: Wait>(
         &mut self,
         rt: &R,
@@ -51,6 +51,7 @@ impl HelperEnd {
     {
         let most = line.count as usize + 1;
         let backoff = Backoff::new();
+        self.sleep.park(rt);
         for _ in rt.forever() {
             if self.taken.len() >= most {
                 return;

@@ -11,6 +11,8 @@ mod notice;
 mod rule;
 mod serving;
 mod session;
+#[cfg(test)]
+mod tests;
 
 pub use closing::close;
 pub use helper::HelperEnd;

@@ -47,8 +47,8 @@ impl SessionEnd {
         }
     }
 
-    // Pushes the next notice, and wakes the helper. Where the queue is full, the session takes the front
-    // notice, and tries again.
+    // Pushes the next notice, and wakes the helper if it is to. Where the queue is full, the session takes
+    // the front notice, and tries again.
     fn push<C, S: Serve<C>, R: Wait>(
         &mut self,
         rt: &R,
@@ -56,6 +56,7 @@ impl SessionEnd {
         context: &C,
         server: &mut S,
         notice: &Notice,
+        wakes: bool,
     )
         requires work { IsAtWork line.now self.old }
         requires next { notice.now.index ≡ length (pushed_by self.old) }
@@ -71,7 +72,9 @@ impl SessionEnd {
             match line.queue.push_as::<Pushes, R>(rt, &mut self.pass, *notice) {
                 Ok(()) => {
                     self.pushed += 1;
-                    line.wake.unpark();
+                    if wakes {
+                        line.wake.unpark();
+                    }
                     return;
                 }
                 Err(_) => self.take_front(rt, line, context, server),
@@ -80,8 +83,10 @@ impl SessionEnd {
         unreachable!()
     }
 
-    /// Pushes a notice with this number, and wakes the helper. As long as the queue is full, the session
-    /// takes the notice at its front and serves it.
+    /// Pushes a notice with this number. As long as the queue is full, the session takes the notice at its
+    /// front and serves it. Where `wakes` is false, a helper that sleeps goes on sleeping, and the notice waits
+    /// for the next call that wakes it: this is for a number that is served already, so that the helper takes
+    /// no turn from the session for nothing.
     pub fn announce<C, S: Serve<C>, R: Wait>(
         &mut self,
         rt: &R,
@@ -89,6 +94,7 @@ impl SessionEnd {
         context: &C,
         server: &mut S,
         number: TxNo,
+        wakes: bool,
     )
         requires open { IsOpen line.now self.old }
         requires few { length (announced self.old) < line.now.count }
@@ -103,7 +109,7 @@ impl SessionEnd {
             index: self.pushed,
             number: Some(number),
         };
-        self.push(rt, line, context, server, &notice);
+        self.push(rt, line, context, server, &notice, wakes);
     }
 
     /// Pushes the last notice, which has no number, and wakes the helper. As long as the queue is full, the
@@ -127,6 +133,6 @@ impl SessionEnd {
             index: self.pushed,
             number: None,
         };
-        self.push(rt, line, context, server, &last);
+        self.push(rt, line, context, server, &last, true);
     }
 }

@@ -1,5 +1,5 @@
 -- The base that a checkpoint at the end of a run raises is the last number.
-use Rattle.std.proofs.Common.{◌≡◌, ℕ, suc, ◌<◌, ◌≤◌, Bool, List, [], ◌∷◌, length, map, Some, refl, sym, ap, subst, ◌∙◌, inl, inr, arith}
+use Rattle.std.proofs.Common.{◌≡◌, ℕ, suc, ◌<◌, ◌≤◌, Bool, List, [], ◌∷◌, ◌++◌, length, map, Some, refl, sym, ap, subst, ◌∙◌, inl, inr, arith}
 use Rattle.std.specs.Prelude.{Ok, slice_get}
 use Rattle.std.proofs.lemmas.Bool.{cases_lt}
 use Rattle.mq_blocks.specs.Drive.{PortState}
@@ -29,9 +29,11 @@ use Rattle.mq_report.specs.declared.line.Line.{Line}
 use Rattle.mq_report.specs.declared.line.Told.{Told}
 use Rattle.mq_run.specs.Ending.{Finishes, HasFinished, HasHeard}
 use Rattle.mq_run.specs.Laws.{IsClean}
-use Rattle.mq_run.specs.Playing.{Plays, begins, goes}
+use Rattle.mq_run.specs.Playing.{Plays, begins, goes, serves}
 use Rattle.mq_run.specs.Runs.{HasRunScripts, Track}
 use Rattle.mq_run.specs.declared.end.RunEnd.{RunEnd}
+use Rattle.mq_run.proofs.RunsHelpers.{all-left, helpers-drew}
+use Rattle.mq_run.proofs.ServedNotices.{seen-served}
 
 -- ---- numbers in lists
 
@@ -57,9 +59,10 @@ module _ {P : Type 0} {G : Ghosts P} where
 
 module _ {P : Type 0} {G : Ghosts P} (state : P → PortState) (faults : P → List PortFault) where
   -- what a session has seen never falls
-  seen-grows : (g : Geometry) (session : ℕ) (groups : List Group) (from : Seat P FileEntry G) (k : ℕ) (told : List Told) (lines : List Line) (v : Seat P FileEntry G) → Plays state faults g session groups from k told lines v → from.seen ≤ v.seen
-  seen-grows g session groups from _ _ _ _ begins = omega arith
-  seen-grows g session groups from _ _ _ _ (goes {old = old} plays at told) = let a = seen-grows g session groups from _ _ _ old plays in let b = told.goes.seen in omega arith
+  seen-grows : (g : Geometry) (session : ℕ) (groups : List Group) (from : Seat P FileEntry G) (k : ℕ) (told : List Told) (lines : List Line) (sent served : List ℕ) (v : Seat P FileEntry G) → Plays state faults g session groups from k told lines sent served v → from.seen ≤ v.seen
+  seen-grows g session groups from _ _ _ _ _ _ begins = omega arith
+  seen-grows g session groups from _ _ _ _ _ _ (goes {old = old} plays at told) = let a = seen-grows g session groups from _ _ _ _ _ old plays in let b = told.goes.seen in omega arith
+  seen-grows g session groups from _ _ _ _ _ v (serves {more = more} {old = old} plays are) = let a = seen-grows g session groups from _ _ _ _ _ old plays in let b = seen-served state faults session old more v are in omega arith
 
 first-track : {A B : Type 0} (f : A → B) (xs : List A) (y : B) (ys : List B) → map f xs ≡ y ∷ ys → (x : A) × (slice_get xs 0 ≡ Some x) × (f x ≡ y)
 first-track f [] y ys e = absurd (cc)
@@ -84,8 +87,15 @@ module _ {P : Type 0} (G : Ghosts P) (state : P → PortState) (faults : P → L
   abbrev values : Values (QueueSide P FileEntry G) (Root P G) FileEntry
   values = side_values state faults
 
-  fin : HasFinished state faults finish e.finished (map (λ t. t.view) run.tracks) run.ends.left
+  fin : HasFinished state faults finish e.finished (map (λ t. t.view) run.tracks) run.ends.sessions
   fin = run.ends.finished
+
+  abbrev helpers : List (Seat P FileEntry G)
+  helpers = map (λ t. t.helper) run.tracks
+
+  left-is : run.ends.left ≡ fin.last ∷ fin.others ++ helpers
+  unfolding fin
+  left-is = all-left G state faults g ports s scripts finish e run
 
   answered : Finishes state faults (Some (Ok n)) fin.others fin.first fin.last
   answered = subst (λ a. Finishes state faults a fin.others fin.first fin.last) is fin.finishes
@@ -105,15 +115,16 @@ module _ {P : Type 0} (G : Ghosts P) (state : P → PortState) (faults : P → L
   drawn-low =
       let low = raises.seen.0 in
       let last : Each (λ d. d.0 ≤ n) fin.last.drawn = subst (Each (λ d. d.0 ≤ n)) (sym raises.drawn) raises.seen.1 in
+      let idle : Each (λ v. Each (λ d. d.0 ≤ n) v.drawn) helpers = each_map _ _ (λ v none. subst (Each (λ d. d.0 ≤ n)) (sym none) tt) helpers (helpers-drew G state faults g ports s scripts finish e run) in
       let others : Each (λ v. Each (λ d. d.0 ≤ n) v.drawn) fin.others = each_map _ _ (λ v b. each_map (λ d. d.0 ≤ between.seen) (λ d. d.0 ≤ n) (λ d l. omega arith) v.drawn b.1) fin.others heard.each in
-      subst (λ vs. Each (λ d. d.0 ≤ n) (drawn_of vs)) (sym fin.after) (all-drawn n (fin.last ∷ fin.others) (last, others))
+      subst (λ vs. Each (λ d. d.0 ≤ n) (drawn_of vs)) (sym left-is) (all-drawn n (fin.last ∷ fin.others ++ helpers) (last, each_append (λ v. Each (λ d. d.0 ≤ n) v.drawn) fin.others helpers others idle))
 
   began : o.base ≤ fin.first.seen
   began =
       let t = first-track (λ (t : Track P G). t.view) run.tracks fin.first fin.others fin.before in
       let script = some-first run.tracks scripts t.0 run.many t.1 in
       let played = run.played 0 script.0 t.0 script.1 t.1 in
-      let grows = seen-grows state faults g 0 script.0.groups (fresh o 0) _ _ _ t.0.view played.plays in
+      let grows = seen-grows state faults g 0 script.0.groups (fresh o 0) _ _ _ _ _ t.0.view played.plays in
       subst (λ v. o.base ≤ v.seen) t.2 grows
 
   not-below : end.next ≤ n
@@ -132,7 +143,7 @@ module _ {P : Type 0} (G : Ghosts P) (state : P → PortState) (faults : P → L
 
   word-high : n ≤ K.word
   word-high =
-      let both : Each (λ v. v.reading.base ≤ K.word) (fin.last ∷ fin.others) = subst (Each (λ v. v.reading.base ≤ K.word)) fin.after run.ends.run.end.based in
+      let both : Each (λ v. v.reading.base ≤ K.word) (fin.last ∷ fin.others ++ helpers) = subst (Each (λ v. v.reading.base ≤ K.word)) left-is run.ends.run.end.based in
       let low = both.0 in
       let told = raises.word in
       omega arith

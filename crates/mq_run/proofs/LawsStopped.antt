@@ -1,5 +1,5 @@
 -- Where the drive refused the checkpoint at the end of a run, a port has gained a fault for it.
-use Rattle.std.proofs.Common.{◌≡◌, Bool, List, ◌∷◌, map, Some, refl, sym, ap, subst, ◌∙◌, inl, inr, arith}
+use Rattle.std.proofs.Common.{◌≡◌, Bool, List, ◌∷◌, ◌++◌, map, Some, refl, sym, ap, subst, ◌∙◌, inl, inr, arith}
 use Rattle.std.specs.Prelude.{Err}
 use Rattle.std.specs.List.{Contains}
 use Rattle.std.proofs.lemmas.List.Elements.{Contains-append_right}
@@ -30,6 +30,7 @@ use Rattle.mq_run.specs.Ending.{Finishes, HasFinished}
 use Rattle.mq_run.specs.Laws.{IsBehindStop}
 use Rattle.mq_run.specs.Runs.{HasRunScripts}
 use Rattle.mq_run.specs.declared.end.RunEnd.{RunEnd}
+use Rattle.mq_run.proofs.RunsHelpers.{all-left}
 
 module _ {P : Type 0} (G : Ghosts P) (state : P → PortState) (faults : P → List PortFault) (g : Geometry) (ports : Ports P) (s : Standing) (scripts : List Script) (finish : Bool) (e : RunEnd P) (why : Cause)
     (run : HasRunScripts G state faults g ports s scripts finish e) (is : e.finished ≡ Some (Err (Drive why))) where
@@ -39,7 +40,7 @@ module _ {P : Type 0} (G : Ghosts P) (state : P → PortState) (faults : P → L
   abbrev end : Ended P FileEntry G
   end = run.ends.end
 
-  fin : HasFinished state faults finish e.finished (map (λ t. t.view) run.tracks) run.ends.left
+  fin : HasFinished state faults finish e.finished (map (λ t. t.view) run.tracks) run.ends.sessions
   fin = run.ends.finished
 
   answered : Finishes state faults (Some (Err (Drive why))) fin.others fin.first fin.last
@@ -62,10 +63,11 @@ module _ {P : Type 0} (G : Ghosts P) (state : P → PortState) (faults : P → L
   charge = record { port = named.port; report = report_of why }
 
   reported : Contains (charged_of run.ends.left) charge
+  unfolding fin
   reported =
       let first : Contains (charge ∷ named.before) charge = (0, omega arith, refl) in
       let last : Contains fin.last.reading.charged charge = subst (λ cs. Contains cs charge) (sym named.charged) first in
-      subst (λ vs. Contains (charged_of vs) charge) (sym fin.after) (Contains-append_right (charged_of fin.others) fin.last.reading.charged charge last)
+      subst (λ vs. Contains (charged_of vs) charge) (sym (all-left G state faults g ports s scripts finish e run)) (Contains-append_right (charged_of (fin.others ++ map (λ t. t.helper) run.tracks)) fin.last.reading.charged charge last)
 
   taken : opened_faults G state faults file_group o ≡ faults_on faults ports
   taken =

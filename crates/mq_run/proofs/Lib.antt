@@ -1,3 +1,4 @@
+pub mod ServedNotices
 pub mod PlayingGroups
 pub mod LinesOrder
 pub mod LinesJoined
@@ -7,6 +8,7 @@ pub mod Parts
 pub mod RunsTracks
 pub mod Seating
 pub mod DrivesKeptPorts
+pub mod RunsHelpers
 pub mod LawsFinished
 pub mod LawsStopped
 pub mod Rings

@@ -1,6 +1,6 @@
 -- The groups of a script, asked one after another: one more of them, and the last.
-use Rattle.std.proofs.Common.{◌≡◌, ◌↔◌, ◌<◌, ◌-◌, ◌++◌, ◌∙◌, ℕ, suc, zero, refl, sym, ap, subst, inl, inr, arith, length-append, List, [], ◌∷◌, get_or, length}
-use Rattle.std.specs.Prelude.{Bool, true, false, Some, Result, Ok, Err, IfOk, IfErr, slice_get}
+use Rattle.std.proofs.Common.{◌≡◌, ◌↔◌, ◌<◌, ◌≤◌, ◌-◌, ◌++◌, ◌∙◌, ℕ, suc, zero, refl, sym, ap, subst, inl, inr, arith, length-append, List, [], ◌∷◌, get_or, length}
+use Rattle.std.specs.Prelude.{Bool, true, false, Option, None, Some, Result, Ok, Err, IfOk, IfErr, slice_get}
 use Rattle.std.specs.List.{All}
 use Rattle.std.proofs.lemmas.List.Elements.{All-append}
 use Rattle.std.proofs.lemmas.Option.{get_or_from_slice_get, slice_get_read, slice_get_within}
@@ -22,7 +22,9 @@ use Rattle.mq_script.specs.declared.group.End.{End}
 use Rattle.mq_script.specs.declared.group.End.TheVariants.{Ask}
 use Rattle.mq_tree.specs.declared.request.Reply.{Reply}
 use Rattle.mq_tree.specs.declared.request.Request.{Request}
-use Rattle.mq_run.specs.Playing.{AreAnswers, AreLines, AreLinesAt, Comes, IsDone, IsNotDone, IsReadLine, HasPlayed, Plays, TellsOfChanges, answered, begins, call_at, goes, told_of}
+use Rattle.mq_notices.specs.Notices.{with_number}
+use Rattle.mq_run.specs.Helping.{AreServed}
+use Rattle.mq_run.specs.Playing.{AreAnswers, AreLines, AreLinesAt, Comes, IsDone, IsNotDone, IsReadLine, IsTold, HasPlayed, Plays, TellsOfChanges, answered, begins, call_at, goes, sent_at, sent_by, sent_number, serves, told_of}
 
 -- ---- lists
 
@@ -129,57 +131,67 @@ module _ {P : Type 0} {G : Ghosts P} (state : P → PortState) (faults : P → L
       let F : List Line → Type 0 = λ ls. Comes state faults g session k group (Err r) ls v w in
       subst F (sym lines) n
 
-module _ {P : Type 0} {G : Ghosts P} (state : P → PortState) (faults : P → List PortFault) (g : Geometry) (session : ℕ) (groups : List Group) (from : Seat P FileEntry G) where
-  pub none-played : (told : List Told) (lines : List Line) → told ≡ [] → lines ≡ [] → Plays state faults g session groups from 0 told lines from
-  none-played told lines t l =
-      subst (λ (x : List Told). Plays state faults g session groups from 0 x lines from) (sym t)
-      (subst (λ (x : List Line). Plays state faults g session groups from 0 [] x from) (sym l) begins)
-
-  pub plays-on : (k q n : ℕ) (told : List Told) (lines more : List Line) (v w : Seat P FileEntry G) (group : Group) (answer : Result Answer Refusal) → Plays state faults g session groups from k told lines v → slice_get groups k ≡ Some group → q ≡ session → n ≡ k → IfOk answer (λ a. IsDone state faults g group.end (call_at q n group) a.at a.drew a.replies.items v w) → IfErr answer (λ r. IsNotDone state faults g group.end (call_at q n group) r v w) → TellsOfChanges group.end group.requests (answered answer) → GoesOn v w → AreLines session k group.end answer more → Plays state faults g session groups from (suc k) (told ++ told_of session k group.end answer ∷ []) (lines ++ more) w
-  plays-on k q n told lines more v w group answer p at qs nk d e changes goes_on are =
+  -- what is reported of a group that was asked
+  pub told-by : (q n : ℕ) (answer : Result Answer Refusal) (more : List Line) → q ≡ session → n ≡ k → IfOk answer (λ a. IsDone state faults g group.end (call_at q n group) a.at a.drew a.replies.items v w) → IfErr answer (λ r. IsNotDone state faults g group.end (call_at q n group) r v w) → TellsOfChanges group.end group.requests (answered answer) → GoesOn v w → AreLines session k group.end answer more → IsTold state faults g session k group (told_of session k group.end answer) more v w
+  told-by q n answer more qs nk d e changes goes_on are =
       let D : ℕ → ℕ → Type 0 = λ a b. IfOk answer (λ x. IsDone state faults g group.end (call_at a b group) x.at x.drew x.replies.items v w) in
       let N : ℕ → ℕ → Type 0 = λ a b. IfErr answer (λ r. IsNotDone state faults g group.end (call_at a b group) r v w) in
       let d2 = subst (D session) nk (subst (λ (a : ℕ). D a n) qs d) in
       let e2 = subst (N session) nk (subst (λ (a : ℕ). N a n) qs e) in
-      goes p at (record {
+      record {
         session_is = refl;
         group_is = refl;
         end = refl;
-        comes = comes state faults g session k group v w answer more d2 e2 are;
+        comes = comes answer more d2 e2 are;
         changes = changes;
         goes = goes_on;
-      })
+      }
 
-  -- The answers to the groups so far, and one more.
-  pub record Goes (k q n : ℕ) (told : List Told) (lines : List Line) (v w : Seat P FileEntry G) (told2 : List Told) (lines2 : List Line) (group : Group) (answer : Result Answer Refusal) : Type 0 where
-    pub plays : Plays state faults g session groups from k told lines v
-    pub at : slice_get groups k ≡ Some group
-    pub session_is : q ≡ session
-    pub calls : n ≡ k
-    pub done : IfOk answer (λ a. IsDone state faults g group.end (call_at q n group) a.at a.drew a.replies.items v w)
-    pub not_done : IfErr answer (λ r. IsNotDone state faults g group.end (call_at q n group) r v w)
-    pub changes : TellsOfChanges group.end group.requests (answered answer)
-    pub goes : GoesOn v w
-    pub more : List Line
-    pub are : AreLines session k group.end answer more
-    pub lines_are : lines2 ≡ lines ++ more
-    pub told_are : told2 ≡ told ++ told_of session k group.end answer ∷ []
+-- the number that a group has sent, by the answer and by its lines
+sent-read : (session k : ℕ) (end : End) (at : ℕ) (drew : Bool) (replies : List Reply) (more : List Line) → AreLinesAt session k end at drew replies more → with_number (sent_at at drew) [] ≡ sent_by (Ok at) more
+sent-read session k end at true replies more are = ap (λ (ls : List Line). sent_by (Ok at) ls) (sym are)
+sent-read session k end at false replies more (l, line, are) = ap (λ (ls : List Line). sent_by (Ok at) ls) (sym are)
 
-  pub goes-on : (k q n : ℕ) (told : List Told) (lines : List Line) (v w : Seat P FileEntry G) (told2 : List Told) (lines2 : List Line) (group : Group) (answer : Result Answer Refusal) → Goes k q n told lines v w told2 lines2 group answer → Plays state faults g session groups from (suc k) told2 lines2 w
-  goes-on k q n told lines v w told2 lines2 group answer h =
-      let one = plays-on k q n told lines h.more v w group answer h.plays h.at h.session_is h.calls h.done h.not_done h.changes h.goes h.are in
-      subst (λ (x : List Told). Plays state faults g session groups from (suc k) x lines2 w) (sym h.told_are)
-      (subst (λ (x : List Line). Plays state faults g session groups from (suc k) (told ++ told_of session k group.end answer ∷ []) x w) (sym h.lines_are) one)
+pub sent-is : (session k : ℕ) (end : End) (answer : Result Answer Refusal) (more : List Line) → AreLines session k end answer more → with_number (sent_number answer) [] ≡ sent_by (answered answer) more
+sent-is session k end (Ok a) more are = sent-read session k end a.at a.drew a.replies.items more are
+sent-is session k end (Err r) more are = refl
 
-  pub has-played : (k : ℕ) (told : List Told) (lines : List Line) (w : Seat P FileEntry G) → Plays state faults g session groups from k told lines w → length told ≡ k → AreAnswers (length groups) told → HasPlayed state faults g session groups told lines from w
-  has-played k told lines w p n a = record {
-    plays = subst (λ (x : ℕ). Plays state faults g session groups from x told lines w) (sym n) p;
+-- a group has sent at most one number
+pub one-number : (sent : Option ℕ) → length (with_number sent []) ≤ 1
+one-number None = omega arith
+one-number (Some n) = omega arith
+
+-- a group that ends the session has sent nothing
+pub none-sent : (answer : Result ℕ Refusal) (more : List Line) → ends_session answer ≡ true → sent_by answer more ≡ []
+none-sent (Ok at) more ends = absurd (cc)
+none-sent (Err r) more ends = refl
+
+module _ {P : Type 0} {G : Ghosts P} (state : P → PortState) (faults : P → List PortFault) (g : Geometry) (session : ℕ) (groups : List Group) (from : Seat P FileEntry G) where
+  -- the same, by equal lists
+  pub plays-as : (k : ℕ) (told told2 : List Told) (lines lines2 : List Line) (sent sent2 served served2 : List ℕ) (w : Seat P FileEntry G) → told2 ≡ told → lines2 ≡ lines → sent2 ≡ sent → served2 ≡ served → Plays state faults g session groups from k told lines sent served w → Plays state faults g session groups from k told2 lines2 sent2 served2 w
+  plays-as k told told2 lines lines2 sent sent2 served served2 w t l s m p =
+      subst (λ (z : List Told × List Line × List ℕ × List ℕ). Plays state faults g session groups from k z.0 z.1 z.2 z.3 w) (λ i. (sym t i, sym l i, sym s i, sym m i)) p
+
+  pub none-played : (told : List Told) (lines : List Line) (sent served : List ℕ) → told ≡ [] → lines ≡ [] → sent ≡ [] → served ≡ [] → Plays state faults g session groups from 0 told lines sent served from
+  none-played told lines sent served t l s m = plays-as 0 [] told [] lines [] sent [] served from t l s m begins
+
+  -- one more group
+  pub goes-on : (k : ℕ) (told told2 : List Told) (lines more lines2 : List Line) (sent sent2 served : List ℕ) (v w : Seat P FileEntry G) (group : Group) (t : Told) → Plays state faults g session groups from k told lines sent served v → slice_get groups k ≡ Some group → IsTold state faults g session k group t more v w → told2 ≡ told ++ t ∷ [] → lines2 ≡ lines ++ more → sent2 ≡ sent ++ sent_by t.answer more → Plays state faults g session groups from (suc k) told2 lines2 sent2 served w
+  goes-on k told told2 lines more lines2 sent sent2 served v w group t p at is told_are lines_are sent_are =
+      plays-as (suc k) (told ++ t ∷ []) told2 (lines ++ more) lines2 (sent ++ sent_by t.answer more) sent2 served served w told_are lines_are sent_are refl (goes p at is)
+
+  -- notices that the session served itself
+  pub serves-on : (k : ℕ) (told : List Told) (lines : List Line) (sent served served2 more : List ℕ) (v w : Seat P FileEntry G) → Plays state faults g session groups from k told lines sent served v → AreServed state faults session v more w → served2 ≡ served ++ more → Plays state faults g session groups from k told lines sent served2 w
+  serves-on k told lines sent served served2 more v w p is served_are = plays-as k told told lines lines sent sent (served ++ more) served2 w refl refl refl served_are (serves p is)
+
+  pub has-played : (k : ℕ) (told : List Told) (lines : List Line) (sent served : List ℕ) (w : Seat P FileEntry G) → Plays state faults g session groups from k told lines sent served w → length told ≡ k → AreAnswers (length groups) told → HasPlayed state faults g session groups told lines sent served from w
+  has-played k told lines sent served w p n a = record {
+    plays = subst (λ (x : ℕ). Plays state faults g session groups from x told lines sent served w) (sym n) p;
     answers = a;
   }
 
-  pub has-ended : (k q n : ℕ) (told : List Told) (lines : List Line) (v w : Seat P FileEntry G) (told2 : List Told) (lines2 : List Line) (group : Group) (answer : Result Answer Refusal) → Goes k q n told lines v w told2 lines2 group answer → length told ≡ k → k < length groups → All Stays told → ends_session (answered answer) ≡ true → HasPlayed state faults g session groups told2 lines2 from w
-  has-ended k q n told lines v w told2 lines2 group answer h count few stays last =
-      let t = told_of session k group.end answer in
-      let many : length told2 ≡ suc k = ap length h.told_are ∙ omega (arith, length-append told (t ∷ [])) in
-      let a : AreAnswers (length groups) told2 = subst (λ (x : List Told). AreAnswers (length groups) x) (sym h.told_are) (ended (length groups) told t stays (omega arith) last) in
-      has-played (suc k) told2 lines2 w (goes-on k q n told lines v w told2 lines2 group answer h) many a
+  -- the session has served the last notices after its script
+  pub has-served : (told told2 : List Told) (lines lines2 : List Line) (sent sent2 served served2 more : List ℕ) (v w : Seat P FileEntry G) → told2 ≡ told → lines2 ≡ lines → sent2 ≡ sent → HasPlayed state faults g session groups told lines sent served from v → AreServed state faults session v more w → served2 ≡ served ++ more → HasPlayed state faults g session groups told2 lines2 sent2 served2 from w
+  has-served told told2 lines lines2 sent sent2 served served2 more v w t l s h is served_are =
+      let plays = plays-as (length told) told told2 lines lines2 sent sent2 (served ++ more) served2 w t l s served_are (serves h.plays is) in
+      has-played (length told) told2 lines2 sent2 served2 w plays (ap length t) (subst (λ (x : List Told). AreAnswers (length groups) x) (sym t) h.answers)

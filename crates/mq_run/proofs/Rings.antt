@@ -35,7 +35,7 @@ use Rattle.mq_tie.specs.declared.ended.Ended.{Ended}
 use Rattle.mq_tie.proofs.Rings as closed
 use Rattle.mq_tie.proofs.Runs.{same-ports}
 use Rattle.mq_run.specs.Lines.{AreCommitLines, IsNotAfter, joined, more, none}
-use Rattle.mq_run.specs.Playing.{Comes, Plays, begins, goes}
+use Rattle.mq_run.specs.Playing.{Comes, Plays, begins, goes, serves}
 use Rattle.mq_run.specs.Rings.{AreCommitsOf, HasRungOnceEach, is_commit_of}
 use Rattle.mq_run.specs.Runs.{HasRunScripts, Track}
 use Rattle.mq_run.specs.declared.end.RunEnd.{RunEnd}
@@ -224,10 +224,11 @@ module _ {P : Type 0} {G : Ghosts P} (state : P → PortState) (faults : P → L
   comes-read k group (Err r) [] old new c = tt
   comes-read k group (Err r) (l ∷ ls) old new c = absurd c
 
-  plays-read : (groups : List Group) (from : Seat P FileEntry G) (k : ℕ) (told : List Told) (ls : List Line) (v : Seat P FileEntry G) → Plays state faults g session groups from k told ls v → NoCommits ls
-  plays-read groups from _ _ _ _ begins = tt
-  plays-read groups from _ _ _ _ (goes {k = k} {told = told} {lines = lines} {more = ms} {old = old} {new = new} {group = group} {t = t} before at is) =
-      no-commits-append lines ms (plays-read groups from k told lines old before) (comes-read k group t.answer ms old new is.comes)
+  plays-read : (groups : List Group) (from : Seat P FileEntry G) (k : ℕ) (told : List Told) (ls : List Line) (sent served : List ℕ) (v : Seat P FileEntry G) → Plays state faults g session groups from k told ls sent served v → NoCommits ls
+  plays-read groups from _ _ _ _ _ _ begins = tt
+  plays-read groups from _ _ _ _ _ _ (goes {k = k} {told = told} {lines = lines} {more = ms} {sent = sent} {served = served} {old = old} {new = new} {group = group} {t = t} before at is) =
+      no-commits-append lines ms (plays-read groups from k told lines sent served old before) (comes-read k group t.answer ms old new is.comes)
+  plays-read groups from k told ls sent _ _ (serves {served = served} {old = old} before are) = plays-read groups from k told ls sent served old before
 
 joined-read : {P : Type 0} {G : Ghosts P} (ts : List (Track P G)) → ((i : ℕ) (t : Track P G) → slice_get ts i ≡ Some t → NoCommits t.reads) → NoCommits (joined (map (λ t. t.reads) ts))
 joined-read [] each = tt
@@ -253,7 +254,7 @@ module _ {P : Type 0} (G : Ghosts P) (state : P → PortState) (faults : P → L
   reads-none = joined-read run.tracks (λ i t at.
       let there = partner run.tracks scripts i t (record { groups = [] }) run.many at in
       let played = run.played i _ t there at in
-      plays-read state faults g i _ _ _ t.told t.reads t.view played.plays)
+      plays-read state faults g i _ _ _ t.told t.reads t.sent _ t.view played.plays)
 
   same-counts : (n : ℕ) → sum_by (one n) (numbers_of q e.entries.items) ≡ sum_by (one n) (numbers_of q commits)
   same-counts n =

@@ -9,6 +9,7 @@ use Rattle.mq_calls.specs.Sessions.{IsReady}
 use Rattle.mq_drive.specs.declared.port.Port.{Ghosts}
 use Rattle.mq_file_entries.specs.declared.entry.FileEntry.{FileEntry}
 use Rattle.mq_journal.specs.Numbers.{Seat, Start}
+use Rattle.mq_notices.specs.declared.line.Line.{Line as NoticeLine}
 use Rattle.mq_pages.specs.Held.{HeldCells}
 use Rattle.mq_report.specs.declared.line.Line.{Line}
 use Rattle.mq_report.specs.declared.line.Told.{Told}
@@ -16,15 +17,17 @@ use Rattle.mq_script.specs.Scripts.{Group}
 use Rattle.mq_run.specs.Playing.{HasRoom}
 use Rattle.mq_run.specs.Seating.{room_for, room_of}
 
-pub has_room : (groups : List Group) (told : Vec Told Global) (reads : Vec Line Global) → room_of told reads ≡ room_for (length groups) → HasRoom groups told reads
-has_room groups told reads is =
+pub has_room : (groups : List Group) (told : Vec Told Global) (reads : Vec Line Global) (line : NoticeLine) → room_of told reads line ≡ room_for (length groups) → HasRoom groups told reads line
+has_room groups told reads line is =
     let told_room : vec_capacity told ≡ length groups = ap (λ r. r.told_room) is in
+    let notices_room : line.count ≡ length groups = ap (λ r. r.notices_room) is in
     let reads_room : vec_capacity reads ≡ length groups = ap (λ r. r.reads_room) is in
     record {
       told_none = ap (λ r. r.told) is;
       told_room = omega arith;
       reads_none = ap (λ r. r.reads) is;
       reads_room = omega arith;
+      notices_room = omega arith;
     }
 
 module _ {P : Type 0} {G : Ghosts P} where

@@ -1,4 +1,6 @@
+pub mod Helping
 pub mod Playing
+pub mod Pairs
 pub mod Ending
 pub mod Lines
 pub mod Runs

@@ -1,5 +1,5 @@
 -- What the groups of a script come to, one after another, on one session.
-use Rattle.std.specs.Prelude.{◌≡◌, ◌⊎◌, ◌↔◌, ◌<◌, ◌≤◌, ◌++◌, ◌-◌, ◌^◌, ℕ, suc, Bool, true, false, List, [], ◌∷◌, length, Some, Result, Ok, Err, slice_get, vec_capacity}
+use Rattle.std.specs.Prelude.{◌≡◌, ◌⊎◌, ◌↔◌, ◌<◌, ◌≤◌, ◌++◌, ◌-◌, ◌^◌, ℕ, suc, Bool, true, false, List, [], ◌∷◌, length, Option, Some, None, Result, Ok, Err, slice_get, vec_capacity}
 use Rattle.std.specs.declared.vec.Vec.{Vec}
 use Rattle.mq_blocks.specs.Drive.{PortState}
 use Rattle.mq_blocks.specs.declared.geometry.Geometry.{Geometry}
@@ -13,9 +13,11 @@ use Rattle.mq_drive.specs.Steps.{PortFault}
 use Rattle.mq_drive.specs.declared.port.Port.{Ghosts}
 use Rattle.mq_file_entries.specs.declared.entry.FileEntry.{FileEntry}
 use Rattle.mq_journal.specs.Numbers.{Seat}
+use Rattle.mq_notices.specs.declared.line.Line.{Line as NoticeLine}
 use Rattle.mq_report.specs.Sessions.{ends_session}
 use Rattle.mq_report.specs.declared.line.Line.{Line}
 use Rattle.mq_report.specs.declared.line.Told.{Told}
+use Rattle.mq_run.specs.Helping.{AreServed}
 use Rattle.mq_script.specs.Scripts.{Group}
 use Rattle.mq_script.specs.declared.group.End.{End}
 use Rattle.mq_script.specs.declared.group.End.TheVariants.{Ask, Fatomic, Fsync}
@@ -41,6 +43,15 @@ answered (Err r) = Err r
 abbrev pub told_of : (session k : ℕ) → End → Result Answer Refusal → Told
 told_of session k end answer = record { session = session; group = k; end = end; answer = answered answer }
 
+-- the number that a group has drawn which was answered well
+abbrev pub sent_at : (at : ℕ) → (drew : Bool) → Option ℕ
+sent_at at true = Some at
+sent_at at false = None
+
+abbrev pub sent_number : Result Answer Refusal → Option ℕ
+sent_number (Ok a) = sent_at a.at a.drew
+sent_number (Err r) = None
+
 -- the answers are those of all groups, or the last of them ends the session; no other does
 pub record AreAnswers (groups : ℕ) (told : List Told) : Type 0 where
   pub most : length told ≤ groups
@@ -54,13 +65,15 @@ pub record IsShort (groups : List Group) : Type 0 where
   pub few : length groups < 2 ^ 32
   pub each : (i : ℕ) (group : Group) → slice_get groups i ≡ Some group → length group.requests < 2 ^ 32
 
--- Nothing was reported yet, and there is room for what is reported of each group, and for its line.
+-- Nothing was reported yet. There is room for what is reported of each group, for its line, and for a notice
+-- of it.
 pub record HasRoom {Z : Type 0} (groups : List Group) (told : Vec Told Z)
-    (reads : Vec Line Z) : Type 0 where
+    (reads : Vec Line Z) (notices : NoticeLine) : Type 0 where
   pub told_none : told.items ≡ []
   pub told_room : length groups ≤ vec_capacity told
   pub reads_none : reads.items ≡ []
   pub reads_room : length groups ≤ vec_capacity reads
+  pub notices_room : length groups ≤ notices.count
 
 -- ---- one group
 
@@ -90,6 +103,12 @@ AreLinesAt session k end at false replies lines =
 abbrev pub AreLines : (session k : ℕ) → End → Result Answer Refusal → List Line → Type 0
 AreLines session k end (Ok a) lines = AreLinesAt session k end a.at a.drew a.replies.items lines
 AreLines session k end (Err r) lines = lines ≡ []
+
+-- the number of a group that drew and was answered well: such a group has no line of its own
+abbrev pub sent_by : Result ℕ Refusal → List Line → List ℕ
+sent_by (Ok at) [] = at ∷ []
+sent_by (Ok at) (l ∷ ls) = []
+sent_by (Err r) lines = []
 
 module _ {P : Type 0} {G : Ghosts P} (state : P → PortState) (faults : P → List PortFault) where
   -- the group was done as its end asks
@@ -129,19 +148,27 @@ module _ {P : Type 0} {G : Ghosts P} (state : P → PortState) (faults : P → L
 
   -- ---- the groups of a script
 
-  -- The first groups were asked, one after another: the answers, and the lines of those that were read.
+  -- The first groups were asked, one after another: the answers, the lines of those that were read, the
+  -- numbers of those that drew and were answered well, and the numbers of the notices that the session
+  -- served itself after one of its groups.
   pub data Plays (g : Geometry) (session : ℕ) (groups : List Group)
       (from : Seat P FileEntry G) : (k : ℕ)
-      → List Told → List Line → Seat P FileEntry G → Type 0 where
-    begins : Plays g session groups from 0 [] [] from
-    goes : {k : ℕ} {told : List Told} {lines more : List Line} {old new : Seat P FileEntry G}
-        {group : Group} {t : Told}
-        → Plays g session groups from k told lines old → slice_get groups k ≡ Some group
+      → List Told → List Line → (sent served : List ℕ) → Seat P FileEntry G → Type 0 where
+    begins : Plays g session groups from 0 [] [] [] [] from
+    goes : {k : ℕ} {told : List Told} {lines more : List Line} {sent served : List ℕ}
+        {old new : Seat P FileEntry G} {group : Group} {t : Told}
+        → Plays g session groups from k told lines sent served old → slice_get groups k ≡ Some group
         → IsTold g session k group t more old new
-        → Plays g session groups from (suc k) (told ++ t ∷ []) (lines ++ more) new
+        → Plays g session groups from (suc k) (told ++ t ∷ []) (lines ++ more)
+        (sent ++ sent_by t.answer more) served new
+    serves : {k : ℕ} {told : List Told} {lines : List Line} {sent served more : List ℕ}
+        {old new : Seat P FileEntry G}
+        → Plays g session groups from k told lines sent served old
+        → AreServed state faults session old more new
+        → Plays g session groups from k told lines sent (served ++ more) new
 
   -- The session has played its script.
   pub record HasPlayed (g : Geometry) (session : ℕ) (groups : List Group) (told : List Told)
-      (lines : List Line) (old new : Seat P FileEntry G) : Type 0 where
-    pub plays : Plays g session groups old (length told) told lines new
+      (lines : List Line) (sent served : List ℕ) (old new : Seat P FileEntry G) : Type 0 where
+    pub plays : Plays g session groups old (length told) told lines sent served new
     pub answers : AreAnswers (length groups) told

@@ -23,4 +23,6 @@ pub struct RunEnd<P: Port> {
     pub next: TxNo,
     /// The result of the checkpoint at the end, if one was asked for.
     pub finished: Option<Result<TxNo, CheckpointRefusal>>,
+    /// For each session the numbers of its notices, by their indexes.
+    pub served: Vec<Vec<TxNo>>,
 }

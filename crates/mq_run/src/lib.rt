@@ -4,12 +4,14 @@
 
 mod end;
 mod ending;
+mod halves;
 mod laws;
 mod lines;
 mod opening;
 mod playing;
 mod runner;
 mod running;
+mod serving;
 mod together;
 
 pub use end::RunEnd;

@@ -9,7 +9,7 @@ ghost use Rattle.mq_run.specs.Runs.{HasRunScripts};
 
 use crate::end::RunEnd;
 use crate::ending::end_scripts;
-use crate::opening::open_runners;
+use crate::opening::open_pairs;
 use crate::together::play_all;
 use mq_blocks::{Geometry, OutOfMemory};
 use mq_calls::Gate;
@@ -20,8 +20,9 @@ use std::alloc::Global;
 use std::sync::Wait;
 use std::thread::Threads;
 
-/// Runs scripts, each on a session of its own and a thread of its own, over the ports of a drive that was
-/// recovered, and ends the run; with `finish` by a checkpoint. On out of memory the ports are given back as
+/// Runs scripts over the ports of a drive that was recovered, and ends the run; with `finish` by a
+/// checkpoint. Each script runs on a session of its own and a thread of its own. A helper on a further
+/// thread drains the session's queue beside it. On out of memory the ports are given back as
 /// they were if nothing was run yet; else they are dropped with the desk.
 pub fn run_scripts<P: Port + Drop + Send, R: Threads + Wait + Sync, G: Gate + Sync>(
     rt: &R,
@@ -41,10 +42,10 @@ pub fn run_scripts<P: Port + Drop + Send, R: Threads + Wait + Sync, G: Gate + Sy
     ensures err { IfErr result (λ e. IfSome e.0 (λ p. (p.queues.items ≡ ports.queues.items)
         × (p.root ≡ ports.root))) }
 {
-    match open_runners(alloc, geometry, ports, standing, scripts) {
-        Ok((files, mut runners)) => {
-            play_all(rt, alloc, &files, &mut runners, scripts, gate);
-            match end_scripts(rt, alloc, files, runners, finish) {
+    match open_pairs(alloc, geometry, ports, standing, scripts) {
+        Ok((files, mut pairs)) => {
+            play_all(rt, alloc, &files, &mut pairs, scripts, gate);
+            match end_scripts(rt, alloc, files, pairs, finish) {
                 Ok(end) => Ok(end),
                 Err(full) => Err((None, full)),
             }

@@ -111,7 +111,7 @@ fn end_pair<P: Port + Drop>(
         × IsReady files.geometry second.queue second.calls second.held (view second.chair) }
 {
     let sessions = vec![in alloc; first, second]?;
-    match files.into_desk(alloc, sessions) {
+    match files.into_desk(alloc, sessions, Vec::new(alloc)) {
         Ok((desk, chairs)) => match close_desk(alloc, desk, chairs) {
             Ok(ended) => Ok(ended.into_ports().0),
             Err(_) => Err(OutOfMemory),

@@ -101,20 +101,20 @@ const RUNG: Course<'static> = Course {
     ],
 };
 
-// The second session changes something only after the first one's command has failed. The first one's
-// second group is not carried out.
+// The second session reads, and then changes something, after the first one's command has failed. A group that reads is
+// done. The first one's second group is not carried out.
 const STOPPED: Course<'static> = Course {
     scripts: [
         "mkdir /a\ncreate /a/f\nwrite /a/f 0 \"hi\"\nfsync\nmkdir /c\nfsync\n",
-        "unlink /x\nfatomic\nmkdir /b\nfsync\n",
+        "unlink /x\nfatomic\nunlink /y\nfatomic\nmkdir /b\nfsync\n",
     ],
     held: (1, Point::Answered),
     until: (0, Point::Answered),
     line: "run d s t --fail 0:3",
     status: 5,
     reports: [
-        "base 0\nat 0 session 1 group 0 fatomic\n  refused NotFound\ncommit 1 session 0 group 0 fsync\n  ok\n  ok\n  ok\ncommit 2 session 1 group 1 fsync\n  ok\nanswer 0 0 failed 1 640 1\nanswer 1 0 ok 0\nanswer 1 1 stopped 1 2\nstopped tx 1\n",
-        "base 0\ncommit 1 session 0 group 0 fsync\n  ok\n  ok\n  ok\nat 1 session 1 group 0 fatomic\n  refused NotFound\ncommit 2 session 1 group 1 fsync\n  ok\nanswer 0 0 failed 1 640 1\nanswer 1 0 ok 1\nanswer 1 1 stopped 1 2\nstopped tx 1\n",
+        "base 0\nat 0 session 1 group 0 fatomic\n  refused NotFound\ncommit 1 session 0 group 0 fsync\n  ok\n  ok\n  ok\nat 1 session 1 group 1 fatomic\n  refused NotFound\ncommit 2 session 1 group 2 fsync\n  ok\nanswer 0 0 failed 1 640 1\nanswer 1 0 ok 0\nanswer 1 1 ok 1\nanswer 1 2 stopped 1 2\nstopped tx 1\n",
+        "base 0\ncommit 1 session 0 group 0 fsync\n  ok\n  ok\n  ok\nat 1 session 1 group 0 fatomic\n  refused NotFound\nat 1 session 1 group 1 fatomic\n  refused NotFound\ncommit 2 session 1 group 2 fsync\n  ok\nanswer 0 0 failed 1 640 1\nanswer 1 0 ok 1\nanswer 1 1 ok 1\nanswer 1 2 stopped 1 2\nstopped tx 1\n",
     ],
     after: [("recover d", 0, "prefix 0\nbase 2\n"), ("ls d", 0, "d /\n")],
 };

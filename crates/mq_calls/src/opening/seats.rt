@@ -1,11 +1,12 @@
-// The sessions, each with a chair and with the memory for its calls.
-ghost use Rattle.std.specs.Prelude.{◌≡◌, ◌≤◌, ℕ, [], Some, IfOk, map, slice_get, vec_len, vec_capacity};
+// The sessions, each with a chair and with the memory for its calls, and the helpers, each with a chair.
+ghost use Rattle.std.specs.Prelude.{◌≡◌, ◌≤◌, ◌+◌, ◌++◌, ℕ, [], Some, IfOk, map, slice_get, vec_len, vec_capacity};
 ghost use Rattle.std.specs.List.{All};
 ghost use Rattle.mq_blocks.specs.Geometry.{homes_of};
 ghost use Rattle.mq_calls.specs.Opening.{IsEquipped, IsUncalled};
 
 use crate::machine::FileMachine;
 use crate::session::Session;
+use crate::settling::Helper;
 use mq_blocks::{Geometry, OutOfMemory, QueueNo};
 use mq_drive::Port;
 use mq_pages::Held;
@@ -28,6 +29,30 @@ pub fn equip(
         kits.push_reserved((held, Placement::new(alloc)?));
     }
     Ok(kits)
+}
+
+/// A helper for each chair behind the first ones, in their order. The first ones, one for each of so many
+/// sessions, are left.
+pub fn set_apart<P: Port + Drop>(
+    chairs: Vec<Chair<FileMachine<P>>>,
+    sessions: u32,
+    helpers: Vec<Helper<P>>,
+) -> (Vec<Chair<FileMachine<P>>>, Vec<Helper<P>>)
+    requires some { sessions ≤ vec_len chairs }
+    requires room { (helpers.items ≡ []) × (vec_len chairs ≤ sessions + vec_capacity helpers) }
+    ensures chairs { result.0.items ++ map (λ h. h.chair) result.1.items ≡ chairs.items }
+    ensures left { vec_len result.0 ≡ sessions }
+{
+    let mut chairs = chairs;
+    let mut helpers = helpers;
+    while chairs.len() > sessions as usize {
+        let Some(chair) = chairs.pop() else {
+            unreachable!()
+        };
+        helpers.push_reserved(Helper { chair });
+    }
+    helpers.reverse();
+    (chairs, helpers)
 }
 
 /// A session for each chair, in their order.

@@ -1,4 +1,4 @@
-use Rattle.std.proofs.Common.{◌∙◌, ℕ, ◌≤◌, List, length, sym, ap, subst, arith}
+use Rattle.std.proofs.Common.{◌∙◌, ℕ, ◌≤◌, List, length, refl, sym, ap, subst, arith}
 use Rattle.std.proofs.lemmas.Result.{IfOk-weaker, err_from_is_err_and}
 use Rattle.mq_blocks.specs.Descriptor.{AreRising}
 use Rattle.mq_blocks.specs.Geometry.{homes_of, write_limit}
@@ -13,7 +13,7 @@ use Rattle.mq_calls.specs.Calling.{call_of}
 use Rattle.mq_calls.specs.Committing.{IsPlacedOn, IsPrepared, HasNoRoom}
 use Rattle.mq_calls.specs.Preparing.{IsEntryReady}
 use Rattle.mq_calls.proofs.ActsCauses.{kept-refused}
-use Rattle.mq_calls.proofs.CommittingDrawable.{called-on, fits-still, is-prepared, lacks-room, plan-of, writes-rise}
+use Rattle.mq_calls.proofs.CommittingDrawable.{called-on, fits-still, is-prepared, lacks-room, plan-of, to-be-drawn, writes-rise}
 use Rattle.mq_calls.proofs.CommittingInHand.{commit-prepared, commit-read, commit-side}
 use Rattle.mq_calls.proofs.PreparingRoom.{left-alone, made-ready, only-drained}
 use Rattle.mq_calls.proofs.preparing.make_ready.Goals as goal
@@ -23,7 +23,10 @@ returns-in-Some-clause-lacks g c =
     let st = g.P.Port.state in
     let fs = g.P.Port.faults in
     let o = start_of c.args.desk.now in
-    kept-refused st fs o c.args.asked.now.queue (view c.args.chair.now) c.requires.at.1 c.args.side.now c.in-Some.cause c.requires.holds.seen c.requires.holds.side (sym c.kept_cause.ensures ∙ c.in-Some.is)
+    let s = c.args.side.now in
+    let v = view c.args.chair.now in
+    let kept = kept-refused st fs o c.args.asked.now.queue (view c.args.chair.now) c.requires.at.1 c.args.side.now c.in-Some.cause c.requires.holds.seen c.requires.holds.side (sym c.kept_cause.ensures ∙ c.in-Some.is) in
+    (kept.0, kept.1, to-be-drawn st fs o s.pmr.geometry (call_of c.args.asked.now) c.args.done.now c.args.held.now.cells v v s c.requires.at.1 c.requires.geometry refl (omega arith) refl c.requires.holds c.requires.done c.requires.few c.requires.changes)
 
 pub place-requires-clause-rise : goal.place-requires-clause-rise
 place-requires-clause-rise g c =

@@ -1,6 +1,5 @@
-use Rattle.std.proofs.Common.{◌<◌, arith, sym, subst}
 use Rattle.mq_turns.specs.AtDesk.{view}
-use Rattle.mq_calls.proofs.Helping.{goes-settled, only-read, still-at-ease}
+use Rattle.mq_calls.proofs.Helping.{goes-settled, has-settled, only-read, still-at-ease}
 use Rattle.mq_calls.proofs.settling.Mqfs+P.settle.Goals as goal
 
 pub returns-clause-ready : goal.returns-clause-ready
@@ -14,3 +13,7 @@ pub returns-clause-goes : goal.returns-clause-goes
 returns-clause-goes g c =
     let e = c.settle.ensures in
     goes-settled g.P.Port.state g.P.Port.faults c.args.queue c.settle.result (view c.args.helper.now.chair) (view c.settle.new.chair) e.swept e.refused
+
+pub returns-clause-settled : goal.returns-clause-settled
+returns-clause-settled g c =
+    has-settled g.P.Port.state g.P.Port.faults c.args.queue c.settle.result (view c.args.helper.now.chair) (view c.settle.new.chair) c.settle.ensures.settled

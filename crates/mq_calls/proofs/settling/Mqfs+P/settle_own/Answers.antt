@@ -1,5 +1,5 @@
 use Rattle.mq_turns.specs.AtDesk.{view}
-use Rattle.mq_calls.proofs.Helping.{goes-settled, only-read, still-ready}
+use Rattle.mq_calls.proofs.Helping.{goes-settled, has-settled, only-read, still-ready}
 use Rattle.mq_calls.proofs.settling.Mqfs+P.settle_own.Goals as goal
 
 pub returns-clause-ready : goal.returns-clause-ready
@@ -15,3 +15,8 @@ returns-clause-goes g c =
     let e = c.settle.ensures in
     let s = c.args.session.now in
     goes-settled g.P.Port.state g.P.Port.faults s.queue c.settle.result (view s.chair) (view c.settle.new.chair) e.swept e.refused
+
+pub returns-clause-settled : goal.returns-clause-settled
+returns-clause-settled g c =
+    let s = c.args.session.now in
+    has-settled g.P.Port.state g.P.Port.faults s.queue c.settle.result (view s.chair) (view c.settle.new.chair) c.settle.ensures.settled
