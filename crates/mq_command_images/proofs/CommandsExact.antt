@@ -82,7 +82,7 @@ says-where Of name bytes wanted old new result status text tells each (loaded ot
     let same : other ≡ bytes = one-held old.contents name bytes other tells load.holds in
     subst (λ (s : ℕ). IsUnlessFailed s result) (each status text (subst (λ (l : List ℕ). Of l status text) same of)) ends
 says-where Of name bytes wanted old new result status text tells each (not_loaded not) ends = not-loaded-status name old new status text wanted result not ends
-says-where Of name bytes wanted old new result status text tells each (wanting same faults six line) ends = still-memory wanted result (subst (λ (s : ℕ). IsUnlessFailed s result) six ends)
+says-where Of name bytes wanted old new result status text tells each (wanting other load six line) ends = still-memory wanted result (subst (λ (s : ℕ). IsUnlessFailed s result) six ends)
 
 -- a command's end
 abbrev pub Ends : (Of : List ℕ → ℕ → List ℕ → Type 0) → (name : List ℕ) → (old new : FilesState) → (before after : SinkState) → ℕ → Type 0

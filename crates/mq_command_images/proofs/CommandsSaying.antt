@@ -57,7 +57,7 @@ pub says : {A E : Type 0} (stat : A → ℕ) (words : A → List ℕ) (Of : List
 says stat words Of name bytes old new before mid after (Ok a) result load same of ends =
     (stat a, words a, loaded bytes load of, subst (λ (s : SinkState). EndsWith (stat a) (words a) result s after) same ends)
 says stat words Of name bytes old new before mid after (Err e) result load same of ends =
-    (6, memory_line, wanting load.contents load.faults refl refl, subst (λ (s : SinkState). EndsWith 6 memory_line result s after) same ends)
+    (6, memory_line, wanting bytes load refl refl, subst (λ (s : SinkState). EndsWith 6 memory_line result s after) same ends)
 
 pub says-not : (Of : List ℕ → ℕ → List ℕ → Type 0) (name : List ℕ) (old new : FilesState) (before after : SinkState) (result : ℕ) → (status : ℕ) × (text : List ℕ) × IsNotLoaded name old new status text × EndsWith status text result before after
     → (status : ℕ) × (text : List ℕ) × SaysOf Of name old new status text × EndsWith status text result before after
@@ -82,7 +82,7 @@ none-of Of bytes _ _ (no_image e has) = no_image e has
 name-refused : (Of : DriveImage → ℕ → List ℕ → Type 0) (name : List ℕ) (old new : FilesState) (status : ℕ) (text : List ℕ) → RefusesName name old new status text → SaysOf (SaysOfImage Of) name old new status text
 name-refused Of name old new status text (loaded bytes load none) = loaded bytes load (none-of Of bytes status text none)
 name-refused Of name old new status text (not_loaded not) = not_loaded not
-name-refused Of name old new status text (wanting contents faults six line) = wanting contents faults six line
+name-refused Of name old new status text (wanting bytes load six line) = wanting bytes load six line
 
 -- the same where it holds none
 pub says-no-image : (Of : DriveImage → ℕ → List ℕ → Type 0) (name : List ℕ) (old new : FilesState) (before after : SinkState) (result : ℕ) → (status : ℕ) × (text : List ℕ) × RefusesName name old new status text × EndsWith status text result before after
@@ -93,7 +93,7 @@ says-no-image Of name old new before after result said = (said.0, said.1, name-r
 pub name-same : (name : List ℕ) (old new : FilesState) (status : ℕ) (text : List ℕ) → RefusesName name old new status text → new.contents ≡ old.contents
 name-same name old new status text (loaded bytes load none) = load.contents
 name-same name old new status text (not_loaded not) = not-loaded-same name old new status text not
-name-same name old new status text (wanting contents faults six line) = contents
+name-same name old new status text (wanting bytes load six line) = load.contents
 
 -- a tree that is alike is read alike
 pub reads-along : (t v : Volume) (path : Path) (r : Result (List ℕ) Fault) → IsAlike t v → ReadsAs t path r → ReadsAs v path r

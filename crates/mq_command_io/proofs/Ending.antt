@@ -62,16 +62,16 @@ unless_wanting status text result old new (inr (inr e)) = inr (four-or-six (nat_
 
 -- the status of why they are not is one of those that may always come
 pub not-loaded-status : (name : List ℕ) (old new : FilesState) (status : ℕ) (text : List ℕ) (wanted result : ℕ) → IsNotLoaded name old new status text → IsUnlessFailed status result → IsUnlessFailed wanted result
-not-loaded-status name old new _ _ wanted result (load_failed same rose) ends = still-fault wanted result ends
-not-loaded-status name old new _ _ wanted result (load_too_long same over faults takes) ends = still-fault wanted result ends
-not-loaded-status name old new _ _ wanted result (load_memory same faults) ends = still-memory wanted result ends
+not-loaded-status name old new _ _ wanted result (load_failed same rose tried) ends = still-fault wanted result ends
+not-loaded-status name old new _ _ wanted result (load_too_long same over faults takes tried) ends = still-fault wanted result ends
+not-loaded-status name old new _ _ wanted result (load_memory same faults tried) ends = still-memory wanted result ends
 
 pub not-saved-status : (name : List ℕ) (old new : FilesState) (status : ℕ) (text : List ℕ) (wanted result : ℕ) → IsNotSaved name old new status text → IsUnlessFailed status result → IsUnlessFailed wanted result
-not-saved-status name old new _ _ wanted result (save_failed others rose taken) ends = still-fault wanted result ends
-not-saved-status name old new _ _ wanted result (save_memory same faults taken) ends = still-memory wanted result ends
+not-saved-status name old new _ _ wanted result (save_failed others rose taken tried) ends = still-fault wanted result ends
+not-saved-status name old new _ _ wanted result (save_memory same faults taken tried) ends = still-memory wanted result ends
 
 -- no name changes by a load
 pub not-loaded-same : (name : List ℕ) (old new : FilesState) (status : ℕ) (text : List ℕ) → IsNotLoaded name old new status text → new.contents ≡ old.contents
-not-loaded-same name old new _ _ (load_failed same rose) = same
-not-loaded-same name old new _ _ (load_too_long same over faults takes) = same
-not-loaded-same name old new _ _ (load_memory same faults) = same
+not-loaded-same name old new _ _ (load_failed same rose tried) = same
+not-loaded-same name old new _ _ (load_too_long same over faults takes tried) = same
+not-loaded-same name old new _ _ (load_memory same faults tried) = same

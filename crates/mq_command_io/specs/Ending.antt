@@ -1,6 +1,6 @@
 -- How a command ends: the one text that there is to say, with a status.
 use Rattle.std.specs.Prelude.{◌≡◌, ◌<◌, ◌≤◌, ◌⊎◌, ℕ, ◌+◌, List, [], ◌∷◌, ◌++◌, nat_eq, if◌then◌else◌, codes}
-use Rattle.mq_outside.specs.Outside.{FilesState, SinkState, Holds, HoldsOver, OthersSame, Rose, appended, AppendsPrefix, count_end, load_limit, put_name}
+use Rattle.mq_outside.specs.Outside.{FilesState, SinkState, Holds, HoldsOver, OthersSame, Rose, TriesAtMost, appended, AppendsPrefix, count_end, load_limit, put_name, tried_too}
 
 -- ---- the lines that are no output
 
@@ -45,21 +45,24 @@ TakesWithin old new = (old ≤ new) × (new ≤ old + load_limit)
 abbrev pub TakesOver : ℕ → ℕ → Type 0
 TakesOver old new = (old + load_limit < new) ⊎ (new ≡ count_end)
 
--- the name gave these bytes
+-- the name gave these bytes, by one load of this name
 pub record IsLoaded (name bytes : List ℕ) (old new : FilesState) : Type 0 where
   pub holds : Holds old.contents name bytes
   pub contents : new.contents ≡ old.contents
   pub faults : new.faults ≡ old.faults
   pub takes : TakesWithin old.taken new.taken
+  pub tried : new.tried ≡ tried_too old.tried name
 
--- what is printed for a name that gave no bytes, by what the files show before and after
+-- What is printed for a name that gave no bytes, by what the files show before and after. The load that
+-- failed, or was too long, was one of this name.
 pub data IsNotLoaded (name : List ℕ) (old new : FilesState) : (status : ℕ) → (text : List ℕ) → Type 0 where
   load_failed : new.contents ≡ old.contents → Rose old.faults new.faults
-      → IsNotLoaded name old new 4 (fault_line name)
+      → new.tried ≡ tried_too old.tried name → IsNotLoaded name old new 4 (fault_line name)
   load_too_long : new.contents ≡ old.contents → HoldsOver old.contents name → new.faults ≡ old.faults
-      → TakesOver old.taken new.taken → IsNotLoaded name old new 4 (too_long_line name)
+      → TakesOver old.taken new.taken → new.tried ≡ tried_too old.tried name
+      → IsNotLoaded name old new 4 (too_long_line name)
   load_memory : new.contents ≡ old.contents → new.faults ≡ old.faults
-      → IsNotLoaded name old new 6 memory_line
+      → TriesAtMost name old.tried new.tried → IsNotLoaded name old new 6 memory_line
 
 -- What is printed for a name that is loaded, where the bytes alone decide the text and the status.
 -- Nothing is saved.
@@ -68,7 +71,7 @@ pub data SaysOf (Of : (bytes : List ℕ) → (status : ℕ) → (text : List ℕ
   loaded : (bytes : List ℕ) → IsLoaded name bytes old new → Of bytes status text
       → SaysOf Of name old new status text
   not_loaded : IsNotLoaded name old new status text → SaysOf Of name old new status text
-  wanting : new.contents ≡ old.contents → new.faults ≡ old.faults → status ≡ 6 → text ≡ memory_line
+  wanting : (bytes : List ℕ) → IsLoaded name bytes old new → status ≡ 6 → text ≡ memory_line
       → SaysOf Of name old new status text
 
 -- ---- saves
@@ -78,10 +81,11 @@ pub record IsSaved (name bytes : List ℕ) (old new : FilesState) : Type 0 where
   pub contents : new.contents ≡ put_name old.contents name bytes
   pub faults : new.faults ≡ old.faults
   pub taken : new.taken ≡ old.taken
+  pub tried : new.tried ≡ old.tried
 
 -- what is printed for bytes that were not saved
 pub data IsNotSaved (name : List ℕ) (old new : FilesState) : (status : ℕ) → (text : List ℕ) → Type 0 where
   save_failed : OthersSame old.contents new.contents name → Rose old.faults new.faults
-      → new.taken ≡ old.taken → IsNotSaved name old new 4 (save_line name)
+      → new.taken ≡ old.taken → new.tried ≡ old.tried → IsNotSaved name old new 4 (save_line name)
   save_memory : new.contents ≡ old.contents → new.faults ≡ old.faults → new.taken ≡ old.taken
-      → IsNotSaved name old new 6 memory_line
+      → new.tried ≡ old.tried → IsNotSaved name old new 6 memory_line

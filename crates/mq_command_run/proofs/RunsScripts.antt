@@ -65,7 +65,7 @@ script-says stat words name bytes refusal old new before mid after (Ok a) result
   subst (λ (s : SinkState). EndsWith (stat a) (words a) result s after) same ends,
 )
 script-says stat words name bytes refusal old new before mid after (Err e) result load same agrees is ends =
-    (6, memory_line, wanting load.contents load.faults, subst (λ (s : SinkState). EndsWith 6 memory_line result s after) same ends)
+    (6, memory_line, wanting bytes load, subst (λ (s : SinkState). EndsWith 6 memory_line result s after) same ends)
 
 -- ---- scripts, one after another
 
@@ -182,7 +182,7 @@ script-held held name bytes script old new _ _ wanted result same tells is (refu
     let text : other ≡ bytes = one-text held name bytes other old new same tells load in
     let both : ◌≡◌ {A = Result Script Refused} (Ok script) (Err at) = sym is ∙ ap script_in (sym text) ∙ bad in
     absurd (let none : ⊥ = cc in none)
-script-held held name bytes script old new _ _ wanted result same tells is (wanting kept faults) ends = still-memory wanted result ends
+script-held held name bytes script old new _ _ wanted result same tells is (wanting other load) ends = still-memory wanted result ends
 
 scripts-held : (held : Option Held) (names : List (List ℕ)) (texts : List Script) (old new : FilesState) (status : ℕ) (text : List ℕ) (wanted result : ℕ) → old.contents ≡ held → HoldScripts held names texts
     → RefusesScripts names old new status text → IsUnlessFailed status result → IsUnlessFailed wanted result
@@ -195,7 +195,7 @@ scripts-held held (name ∷ names) (t ∷ texts) old new status text wanted resu
 script-two : (name : List ℕ) (old new : FilesState) (status : ℕ) (text : List ℕ) (result : ℕ) → RefusesScript name old new status text → IsUnlessFailed status result → IsUnlessFailed 2 result
 script-two name old new status text result (not_loaded not) ends = not-loaded-status name old new status text 2 result not ends
 script-two name old new _ _ result (refused bytes at load bad) ends = ends
-script-two name old new _ _ result (wanting same faults) ends = still-memory 2 result ends
+script-two name old new _ _ result (wanting bytes load) ends = still-memory 2 result ends
 
 scripts-two : (names : List (List ℕ)) (old new : FilesState) (status : ℕ) (text : List ℕ) (result : ℕ) → RefusesScripts names old new status text → IsUnlessFailed status result → IsUnlessFailed 2 result
 scripts-two [] old new status text result refuses ends = absurd refuses

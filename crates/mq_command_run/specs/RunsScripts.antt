@@ -48,7 +48,7 @@ pub data RefusesScript (name : List ℕ) (old new : FilesState) : (status : ℕ)
       → RefusesScript name old new status text
   refused : (bytes : List ℕ) (at : Refused) → IsLoaded name bytes old new → script_in bytes ≡ Err at
       → RefusesScript name old new 2 (script_line name at.line at.cause)
-  wanting : new.contents ≡ old.contents → new.faults ≡ old.faults → RefusesScript name old new 6 memory_line
+  wanting : (bytes : List ℕ) → IsLoaded name bytes old new → RefusesScript name old new 6 memory_line
 
 -- the first of these names that gives no script
 abbrev pub RefusesScripts : (names : List (List ℕ)) → (old new : FilesState) → (status : ℕ)

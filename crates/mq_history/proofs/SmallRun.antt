@@ -13,7 +13,7 @@ use Rattle.mq_calls.specs.declared.answers.Refusal.{Refusal}
 use Rattle.mq_layout.specs.Names.{is_name}
 use Rattle.mq_history.proofs.LegalMoving.{sound-writes, writes-few}
 use Rattle.mq_history.proofs.CutsStarting.{run-ends}
-use Rattle.mq_history.specs.Answers.{AreAnswered, AreCaused, IsAcknowledged, IsCaused, IsLarge, IsOf, IsPrefixAnswered, IsRefusedFor, group_told, Names as NamesLine, number_in}
+use Rattle.mq_history.specs.Answers.{AreAnswered, AreCaused, IsAcknowledged, IsCaused, IsLarge, IsOf, IsPrefixAnswered, IsRefusedFor, TellErrors, group_told, Names as NamesLine, number_in}
 use Rattle.mq_history.specs.Cuts.{IsClean, IsCut, IsRung}
 use Rattle.mq_history.specs.Groups.{IsGroup}
 use Rattle.mq_history.specs.Legal.{IsLegal, IsRun, IsStep, Writes, WritesFew, next, number_after}
@@ -247,10 +247,10 @@ pub no-later : (ls : List Line) (reached tx status : ℕ) → 1 < tx → IsCause
 no-later ls reached tx status above h = let late = ((failed-for ls reached tx status h).late 1 refl).1 in omega arith
 
 pub no-reached : (ls : List Line) (reached tx status : ℕ) → tx ≤ reached → IsCaused two small_scripts empty 0 ls reached (as_failed tx status) → ⊥
-no-reached ls reached tx status low h = let above = (failed-for ls reached tx status h).cause_is.0.above in omega arith
+no-reached ls reached tx status low h = let above = (failed-for ls reached tx status h).cause_is.above in omega arith
 
-pub no-status : (ls : List Line) (reached tx status : ℕ) → status ≢ 640 → IsCaused two small_scripts empty 0 ls reached (as_failed tx status) → ⊥
-no-status ls reached tx status other h = other (failed-for ls reached tx status h).cause_is.1
+pub no-status : (tx status : ℕ) → status ≢ 640 → TellErrors two (as_failed tx status ∷ []) → ⊥
+no-status tx status other h = other (h (as_failed tx status) (record { cause = Drive (Failed tx status); drawn = Some 1 }) (Failed tx status) (0, lit≤ tt, refl) refl refl)
 
 pub no-stopped-ask : (ls : List Line) (reached tx : ℕ) (why : Why) → IsCaused two only_asking empty 0 ls reached (stopped_ask tx why) → ⊥
 no-stopped-ask ls reached tx why h = (h.refused (record { cause = Drive (Stopped tx why); drawn = None }) refl).asks refl

@@ -129,13 +129,19 @@ abbrev pub HasFailure : Why → Type 0
 HasFailure (Status status) = IsFailure status
 HasFailure why = Unit {0}
 
--- what a port's cause says of the history: a transaction that failed, or that stopped its queue, is undone;
--- and a home write that failed is of a home block, so of the port of a queue or of the root
+-- what a port's cause says of the history: a transaction that failed, or that stopped its queue, is undone
 abbrev pub IsPortCause : Geometry → List Line → (reached : ℕ) → Cause → Type 0
-IsPortCause g lines reached (Failed tx status) = IsUndone g lines reached tx × IsFailure status
-IsPortCause g lines reached (FailedHome block status) = (block < homes_of g) × IsFailure status
-IsPortCause g lines reached (Stopped tx why) = IsUndone g lines reached tx × HasFailure why
+IsPortCause g lines reached (Failed tx status) = IsUndone g lines reached tx
+IsPortCause g lines reached (Stopped tx why) = IsUndone g lines reached tx
 IsPortCause g lines reached cause = Unit {0}
+
+-- What a port's cause says of the write that failed, if it tells of one: it ended with the status of one that
+-- fails; and a home write is of a home block, so of the port of a queue or of the root.
+abbrev pub IsErrorOf : Geometry → Cause → Type 0
+IsErrorOf g (Failed tx status) = IsFailure status
+IsErrorOf g (FailedHome block status) = (block < homes_of g) × IsFailure status
+IsErrorOf g (Stopped tx why) = HasFailure why
+IsErrorOf g cause = Unit {0}
 
 -- what a cause says of the scripts and of the history
 abbrev pub IsCause : Geometry → List Script → Volume → (base : ℕ) → List Line → (reached : ℕ) → Told
@@ -184,3 +190,12 @@ abbrev pub AreCaused : Geometry → List Script → Volume → (base : ℕ) → 
     → List Told → Type 0
 AreCaused g scripts v base lines reached answers =
     (t : Told) → Contains answers t → IsCaused g scripts v base lines reached t
+
+-- Each refusal for a port's cause tells of such a write. The causes above say nothing of it.
+abbrev pub TellErrors : Geometry → List Told → Type 0
+TellErrors g answers =
+    (t : Told) (r : Refusal) (cause : Cause)
+    → Contains answers t
+    → t.answer ≡ Err r
+    → r.cause ≡ Drive cause
+    → IsErrorOf g cause

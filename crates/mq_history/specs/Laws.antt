@@ -10,7 +10,7 @@ use Rattle.mq_file_entries.specs.Entries.{RanUndrawn, volume_after}
 use Rattle.mq_file_entries.specs.Group.{file_group}
 use Rattle.mq_file_entries.specs.declared.entry.FileEntry.{FileEntry}
 use Rattle.mq_ledger.specs.History as ledger
-use Rattle.mq_history.specs.Answers.{AreAnswered, AreCaused, HasCommit, IsCaused, IsAcknowledged, IsOf, is_good}
+use Rattle.mq_history.specs.Answers.{AreAnswered, AreCaused, HasCommit, IsCaused, IsAcknowledged, IsOf, TellErrors, is_good}
 use Rattle.mq_history.specs.Cuts.{HasShare, IsClean, IsCut, IsRung, ShowsVolume, Starts, is_on}
 use Rattle.mq_history.specs.Histories.{AllDo, AreLinesOf, AreOfBytes, ChangesOn, WritesNothing, RunsOn, StaysOn, map_after, volume_through}
 use Rattle.mq_history.specs.Legal.{AllWriteFew, IsLegal, IsRun, Writes, newest, volume_at}
@@ -337,10 +337,7 @@ NoReachedOneFails =
 -- or with another status
 abbrev pub NoOtherStatusFails : Type 0
 NoOtherStatusFails =
-    (ls : List Line) (reached tx status : ℕ)
-    → status ≢ 640
-    → IsCaused two small_scripts (empty_volume two) 0 ls reached (as_failed tx status)
-    → ⊥
+    (tx status : ℕ) → status ≢ 640 → TellErrors two (as_failed tx status ∷ []) → ⊥
 
 -- a group that asks, stopped by the drive
 abbrev pub NoAskIsStopped : Type 0

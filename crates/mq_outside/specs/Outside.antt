@@ -1,5 +1,5 @@
 -- Files and sinks: what they hold, and which answers their counts allow.
-use Rattle.std.specs.Prelude.{ℕ, ◌≡◌, ◌<◌, ◌≤◌, ◌+◌, ◌⊎◌, Bool, false, cond, List, [], ◌++◌, length, take, Option, Some, None, Result, Ok, Err, min, find}
+use Rattle.std.specs.Prelude.{ℕ, ◌≡◌, ◌<◌, ◌≤◌, ◌+◌, ◌⊎◌, Bool, false, cond, List, [], ◌∷◌, ◌++◌, length, take, Option, Some, None, Result, Ok, Err, min, find}
 use Rattle.std.specs.Option.{option_map, unwrap_or}
 use Rattle.std.specs.Str.{bytes_eq}
 use Rattle.std.specs.String.{string_bytes}
@@ -28,12 +28,13 @@ Rose old new = (old < new) ⊎ ((old ≡ count_end) × (new ≡ count_end))
 abbrev pub Held : Type 0
 Held = List ℕ → Option (List ℕ)
 
--- What files show: what each name holds, where they show it, how many of their calls failed, and how many
--- bytes their loads took.
+-- What files show: what each name holds, where they show it, how many of their calls failed, how many bytes
+-- their loads took, and the names of which a load was tried, one after another, where they show that.
 pub record FilesState : Type 0 where
   pub contents : Option Held
   pub faults : ℕ
   pub taken : ℕ
+  pub tried : Option (List (List ℕ))
 
 -- what a sink shows: the bytes written so far, where it shows them, and how many of its calls failed
 pub record SinkState : Type 0 where
@@ -86,6 +87,23 @@ LoadTakes (Ok _) old new = (old ≤ new) × (new ≤ old + load_limit)
 LoadTakes (Err load.Failed) old new = old ≤ new
 LoadTakes (Err load.TooLong) old new = (old ≤ new) × ((old + load_limit < new) ⊎ (new ≡ count_end))
 LoadTakes (Err load.OutOfMemory) old new = old ≤ new
+
+-- the names of which a load was tried, and this one after them
+abbrev pub tried_too : Option (List (List ℕ)) → List ℕ → Option (List (List ℕ))
+tried_too None name = None
+tried_too (Some names) name = Some (names ++ name ∷ [])
+
+-- a load of this name alone was tried, or memory ran out before that
+abbrev pub TriesAtMost : List ℕ → Option (List (List ℕ)) → Option (List (List ℕ)) → Type 0
+TriesAtMost name old new = (new ≡ tried_too old name) ⊎ (new ≡ old)
+
+-- a load of this name alone was tried; where memory ran out, maybe none was
+abbrev pub LoadTries : {T : Type 0} → Result T LoadRefusal → List ℕ → Option (List (List ℕ))
+    → Option (List (List ℕ)) → Type 0
+LoadTries (Ok _) name old new = new ≡ tried_too old name
+LoadTries (Err load.Failed) name old new = new ≡ tried_too old name
+LoadTries (Err load.TooLong) name old new = new ≡ tried_too old name
+LoadTries (Err load.OutOfMemory) name old new = TriesAtMost name old new
 
 -- where a load was too long, the name holds more bytes than one load gives
 abbrev pub LoadRefused : LoadRefusal → Option Held → List ℕ → Type 0

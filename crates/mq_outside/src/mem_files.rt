@@ -68,6 +68,7 @@ impl Files for MemFiles {
       contents = Some (held_in f.entries.items);
       faults = f.schedule.faults;
       taken = f.taken;
+      tried = None;
     } };
 
     fn load(&mut self, alloc: Global, name: &str) -> Result<Vec<u8>, LoadRefusal>
@@ -151,6 +152,7 @@ impl Files for SureFiles {
       contents = Some (certain_in f.entries.items);
       faults = 0;
       taken = f.taken;
+      tried = None;
     } };
 
     fn load(&mut self, alloc: Global, name: &str) -> Result<Vec<u8>, LoadRefusal> {

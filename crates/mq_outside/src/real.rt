@@ -142,7 +142,7 @@ impl<R: rt::Files> RealFiles<R> {
 }
 
 impl<R: rt::Files> Files for RealFiles<R> {
-    ghost state = { λ f. record { contents = None; faults = f.faults; taken = f.taken } };
+    ghost state = { λ f. record { contents = None; faults = f.faults; taken = f.taken; tried = None } };
 
     fn load(&mut self, alloc: Global, name: &str) -> Result<Vec<u8>, LoadRefusal>
         ensures within { IfOk result (λ v. length v.items ≤ load_limit) }

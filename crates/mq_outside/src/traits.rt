@@ -29,9 +29,9 @@ pub enum PutRefusal {
 /// Files by name. A count that has reached `u64::MAX` stays there.
 pub trait Files {
     ghost use Rattle.std.specs.Prelude.{◌≡◌, ◌≤◌, IfOk, MatchResult, length};
-    ghost use Rattle.mq_outside.specs.Outside.{FilesState, Holds, LoadCause, LoadRefused, LoadTakes, SaveCause, Saves};
+    ghost use Rattle.mq_outside.specs.Outside.{FilesState, Holds, LoadCause, LoadRefused, LoadTakes, LoadTries, SaveCause, Saves};
 
-    // What each name holds, how many calls failed, and how many bytes loads took.
+    // What each name holds, how many calls failed, how many bytes loads took, and which names were to be loaded.
     ghost state: { Self → FilesState };
 
     /// The bytes that the name holds.
@@ -41,13 +41,15 @@ pub trait Files {
         ensures within { IfOk result (λ v. length v.items ≤ LOAD_LIMIT) }
         ensures cause { LoadCause result (state self.old).faults (state self.new).faults }
         ensures takes { LoadTakes result (state self.old).taken (state self.new).taken }
+        ensures tries { LoadTries result name.now (state self.old).tried (state self.new).tried }
         ensures names { (state self.new).contents ≡ (state self.old).contents };
 
     /// Makes the name hold the bytes.
     fn save(&mut self, name: &str, bytes: &[u8]) -> Result<(), SaveRefusal>
         ensures names { Saves result (state self.old).contents (state self.new).contents name.now bytes.now }
         ensures cause { SaveCause result (state self.old).faults (state self.new).faults }
-        ensures takes { (state self.new).taken ≡ (state self.old).taken };
+        ensures takes { (state self.new).taken ≡ (state self.old).taken }
+        ensures tries { (state self.new).tried ≡ (state self.old).tried };
 }
 
 /// Output, taken a piece at a time. A count that has reached `u64::MAX` stays there.

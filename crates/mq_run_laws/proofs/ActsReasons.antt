@@ -24,7 +24,8 @@ use Rattle.mq_journal.specs.Sweeping.{NamesUpto, WasRefused}
 use Rattle.mq_history.specs.Answers.{IsLate, IsLatePort, MayRefuseAsk}
 use Rattle.mq_report.specs.declared.line.Line.{Line}
 use Rattle.mq_report.specs.declared.line.Told.{Told}
-use Rattle.mq_run.specs.Playing.{Comes, IsNotDone, Plays, TellsOfChanges, begins, goes, call_at}
+use Rattle.mq_run.specs.Playing.{Comes, IsNotDone, Plays, TellsOfChanges, begins, goes, serves, call_at}
+use Rattle.mq_run.proofs.ServedNotices.{keeps-served}
 use Rattle.mq_script.specs.Scripts.{Group}
 use Rattle.mq_script.specs.declared.group.End.{End}
 use Rattle.mq_script.specs.declared.group.End.TheVariants.{Ask, Fatomic, Fsync}
@@ -158,9 +159,9 @@ module _ {P : Type 0} {G : Ghosts P} (state : P → PortState) (faults : P → L
   says-on : (session k : ℕ) (group : Group) (t : Told) (old new : List (FileEntry × Shared P FileEntry G)) → ((x : FileEntry × Shared P FileEntry G) → Contains old x → Contains new x) → Says session k group t old → Says session k group t new
   says-on session k group t old new on h = record { reasons = λ r is. reasons-on g group.end (call_at session k group) r.cause r.drawn old new on (h.reasons r is); changing = h.changing }
 
-  pub says : (session : ℕ) (groups : List Group) (from : Seat P FileEntry G) (k : ℕ) (told : List Told) (lines : List Line) (v : Seat P FileEntry G) → length told ≡ k → Plays state faults g session groups from k told lines v → (j : ℕ) (t : Told) → slice_get told j ≡ Some t → (group : Group) × (slice_get groups j ≡ Some group) × Says session j group t v.read
-  says session groups from _ _ _ _ many begins j t at = absurd (cc)
-  says session groups from _ _ _ _ many (goes {k = k} {told = told} {lines = lines} {more = more} {old = old} {new = new} {group = group} {t = u} plays here_is is) j t at =
+  pub says : (session : ℕ) (groups : List Group) (from : Seat P FileEntry G) (k : ℕ) (told : List Told) (lines : List Line) (sent served : List ℕ) (v : Seat P FileEntry G) → length told ≡ k → Plays state faults g session groups from k told lines sent served v → (j : ℕ) (t : Told) → slice_get told j ≡ Some t → (group : Group) × (slice_get groups j ≡ Some group) × Says session j group t v.read
+  says session groups from _ _ _ _ _ _ many begins j t at = absurd (cc)
+  says session groups from _ _ _ _ _ _ many (goes {k = k} {told = told} {lines = lines} {more = more} {sent = sent} {served = served} {old = old} {new = new} {group = group} {t = u} plays here_is is) j t at =
       let long = length-append told (u ∷ []) in
       let one : Says session k group u new.read = record {
         reasons = λ r bad. comes-reasons session k group u.answer more r old new bad is.comes;
@@ -168,8 +169,12 @@ module _ {P : Type 0} {G : Ghosts P} (state : P → PortState) (faults : P → L
       } in
       let on = reads-on session k group u.answer more old new (came state faults g session k group u.answer more old new is.comes) in
       elim (push-cases told j u t at) [
-        | inl o ↦ (let r = says session groups from k told lines old (omega arith) plays j t o in (r.0, r.1, says-on session j r.0 t old.read new.read on r.2))
+        | inl o ↦ (let r = says session groups from k told lines sent served old (omega arith) plays j t o in (r.0, r.1, says-on session j r.0 t old.read new.read on r.2))
         | inr n ↦ (
             let place : k ≡ j = (let low = n.0 in omega arith) in
             (group, ap (slice_get groups) (sym place) ∙ here_is, subst (λ (z : ℕ × Told). Says session z.0 group z.1 new.read) (λ i. (place i, n.1 i)) one))
       ]
+  says session groups from k told lines sent _ v many (serves {served = served} {more = ns} {old = old} plays are) j t at =
+      let keeps = keeps-served state faults session old ns v are in
+      let r = says session groups from k told lines sent served old many plays j t at in
+      (r.0, r.1, says-on session j r.0 t old.read v.read (λ x c. subst (λ (rs : List (FileEntry × Shared P FileEntry G)). Contains rs x) (sym keeps.read) c) r.2)

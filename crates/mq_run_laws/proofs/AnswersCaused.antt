@@ -136,7 +136,7 @@ module _ {P : Type 0} (G : Ghosts P) (state : P → PortState) (faults : P → L
   is-caused reached t c port =
       let b = told-in G state faults g ports s scripts finish e run short t c in
       let x = b.session in
-      let h = says state faults g t.session x.script.groups (fresh run.opening t.session) (length b.track.told) b.track.told b.track.reads b.track.view refl x.played.plays t.group t b.at in
+      let h = says state faults g t.session x.script.groups (fresh run.opening t.session) (length b.track.told) b.track.told b.track.reads _ _ b.track.view refl x.played.plays t.group t b.at in
       let group : Group = h.0 in
       let told : group_told scripts t ≡ group = (group-found scripts t.session t.group x.script group x.at h.1).1 in
       let end : (group_told scripts t).end ≡ group.end = ap (λ (y : Group). y.end) told in

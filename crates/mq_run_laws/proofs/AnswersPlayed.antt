@@ -19,7 +19,8 @@ use Rattle.mq_history.specs.Histories.{WritesNothing}
 use Rattle.mq_report.specs.declared.line.Line.{Line}
 use Rattle.mq_report.specs.declared.line.Told.{Told}
 use Rattle.mq_run.specs.Lines.{end_of}
-use Rattle.mq_run.specs.Playing.{Comes, IsDone, Plays, begins, goes, call_at}
+use Rattle.mq_run.specs.Playing.{Comes, IsDone, Plays, begins, goes, serves, call_at}
+use Rattle.mq_run.proofs.ServedNotices.{Keeps, keeps-served}
 use Rattle.mq_script.specs.Scripts.{Group}
 use Rattle.mq_script.specs.declared.group.End.{End}
 use Rattle.mq_script.specs.declared.group.End.TheVariants.{Ask, Fatomic, Fsync}
@@ -151,6 +152,17 @@ module _ {P : Type 0} {G : Ghosts P} where
     durable = λ n a e. let low = b.durable n a e in omega arith;
   }
 
+  same-told : (session : ℕ) (groups : List Group) (lines : List Line) (old new : Seat P FileEntry G) (k : ℕ) (t : Told) → ((d : ℕ × FileEntry) → Contains old.drawn d → Contains new.drawn d) → old.reading.done ≤ new.reading.done → ToldAt session groups lines old k t → ToldAt session groups lines new k t
+  same-told session groups lines old new k t on later b = record {
+    group = b.group;
+    at = b.at;
+    session_is = b.session_is;
+    group_is = b.group_is;
+    end = b.end;
+    names = λ n e. elim (b.names n e) [ inl h ↦ inl (record { entry = h.entry; there = on (n, h.entry) h.there; call = h.call }) | inr h ↦ inr h ];
+    durable = λ n a e. let low = b.durable n a e in omega arith;
+  }
+
   -- the entry that the new group drew
   pub record NewlyDrawn (g : Geometry) (session : ℕ) (groups : List Group) (k : ℕ) (told : List Told) (t : Told) (new : Seat P FileEntry G) (d : ℕ × FileEntry) : Type 0 where
     pub by : DrawnBy g session groups (told ++ t ∷ []) d
@@ -279,6 +291,20 @@ module _ {P : Type 0} {G : Ghosts P} where
         durable = durable;
       }
 
+  -- what was left stays where the session only serves notices
+  tells-on : (g : Geometry) (session : ℕ) (groups : List Group) (k : ℕ) (told : List Told) (lines : List Line) (old new : Seat P FileEntry G) → Keeps old new → Tells g session groups k told lines old → Tells g session groups k told lines new
+  tells-on g session groups k told lines old new keeps h =
+      let drawn-on : (d : ℕ × FileEntry) → Contains old.drawn d → Contains new.drawn d = λ d c. in-same old.drawn new.drawn keeps.drawn d c in
+      let drawn-back : (d : ℕ × FileEntry) → Contains new.drawn d → Contains old.drawn d = λ d c. in-back old.drawn new.drawn keeps.drawn d c in
+      record {
+        many = h.many;
+        drawn = λ d c. h.drawn d (drawn-back d c);
+        reads = λ l c. subst (λ (rs : List (FileEntry × Shared P FileEntry G)). ReadBy session groups told rs l) (sym keeps.read) (h.reads l c);
+        each = λ j t e. same-told session groups lines old new j t drawn-on keeps.done (h.each j t e);
+        rising = h.rising;
+        sent = λ d c t at good. in-same (keeps.charges ++ old.reading.charged) new.reading.charged keeps.charged (reported session (report.Sent d.0)) (in-right keeps.charges old.reading.charged (reported session (report.Sent d.0)) (h.sent d (drawn-back d c) t at good));
+      }
+
 module _ {P : Type 0} {G : Ghosts P} (state : P → PortState) (faults : P → List PortFault) (g : Geometry) (session : ℕ) (groups : List Group) (from : Seat P FileEntry G) where
   done-of : (end : End) (c : Call) (at : ℕ) (was : Bool) (replies : List Reply) (old new : Seat P FileEntry G) → IsDone state faults g end c at was replies old new → end ≡ Fsync → at ≤ new.reading.done
   done-of Fsync c at was replies old new d is = d.done
@@ -292,8 +318,8 @@ module _ {P : Type 0} {G : Ghosts P} (state : P → PortState) (faults : P → L
   durable-done k group (Ok at) (l ∷ m ∷ ls) old new h n is end = absurd h
   durable-done k group (Err r) lines old new h n is end = absurd (cc)
 
-  pub tells : (k : ℕ) (told : List Told) (lines : List Line) (v : Seat P FileEntry G) → from.drawn ≡ [] → Plays state faults g session groups from k told lines v → Tells g session groups k told lines v
-  tells _ _ _ _ none begins = record {
+  pub tells : (k : ℕ) (told : List Told) (lines : List Line) (sent served : List ℕ) (v : Seat P FileEntry G) → from.drawn ≡ [] → Plays state faults g session groups from k told lines sent served v → Tells g session groups k told lines v
+  tells _ _ _ _ _ _ none begins = record {
     many = refl;
     drawn = λ d c. absurd (none-in d (subst (λ (ds : List (ℕ × FileEntry)). Contains ds d) none c));
     reads = λ l c. absurd (none-in l c);
@@ -301,7 +327,9 @@ module _ {P : Type 0} {G : Ghosts P} (state : P → PortState) (faults : P → L
     rising = pairs-none (λ l m. l.group < m.group);
     sent = λ d c t at good. absurd (none-in d (subst (λ (ds : List (ℕ × FileEntry)). Contains ds d) none c));
   }
-  tells _ _ _ _ none (goes {k = k} {told = told} {lines = lines} {more = more} {old = old} {new = new} {group = group} {t = t} plays at is) =
-      let h = tells k told lines old none plays in
+  tells _ _ _ _ _ _ none (goes {k = k} {told = told} {lines = lines} {more = more} {sent = sent} {served = served} {old = old} {new = new} {group = group} {t = t} plays at is) =
+      let h = tells k told lines sent served old none plays in
       let a = adds g session groups k group told t more old new h.many at (came state faults g session k group t.answer more old new is.comes) in
       one-more g session groups k group told t lines more old new h at is.session_is is.group_is is.end is.goes.done (durable-done k group t.answer more old new is.comes) a
+  tells k told lines sent _ new none (serves {served = served} {more = ns} {old = old} plays are) =
+      tells-on g session groups k told lines old new (keeps-served state faults session old ns new are) (tells k told lines sent served old none plays)

@@ -26,7 +26,8 @@ use Rattle.mq_recover.specs.declared.standing.Standing.{Standing}
 use Rattle.mq_report.specs.declared.line.Line.{Line}
 use Rattle.mq_report.specs.declared.line.Told.{Told}
 use Rattle.mq_run.specs.Laws.{IsBehindStop}
-use Rattle.mq_run.specs.Playing.{Comes, IsNotDone, IsShort, Plays, begins, call_at, goes}
+use Rattle.mq_run.specs.Playing.{Comes, IsNotDone, IsShort, Plays, begins, call_at, goes, serves}
+use Rattle.mq_run.proofs.ServedNotices.{keeps-served}
 use Rattle.mq_run.specs.Runs.{HasRunScripts}
 use Rattle.mq_run.specs.declared.end.RunEnd.{RunEnd}
 use Rattle.mq_script.specs.Scripts.{Group, Script}
@@ -109,17 +110,21 @@ module _ {P : Type 0} {G : Ghosts P} (state : P → PortState) (faults : P → L
   -- ---- along a script
 
   -- each refusal among the answers was reported
-  pub charged-along : (session : ℕ) (groups : List Group) (from : Seat P FileEntry G) (k : ℕ) (told : List Told) (lines : List Line) (v : Seat P FileEntry G) → length told ≡ k → Plays state faults g session groups from k told lines v
+  pub charged-along : (session : ℕ) (groups : List Group) (from : Seat P FileEntry G) (k : ℕ) (told : List Told) (lines : List Line) (sent served : List ℕ) (v : Seat P FileEntry G) → length told ≡ k → Plays state faults g session groups from k told lines sent served v
       → (j : ℕ) (t : Told) → slice_get told j ≡ Some t → (r : Refusal) (cause : Cause) → t.answer ≡ Err r → r.cause ≡ Drive cause → IsCharged cause v.reading.charged
-  charged-along session groups from _ _ _ _ many begins j t at r cause bad is = absurd (cc)
-  charged-along session groups from _ _ _ _ many (goes {k = k} {told = told} {lines = lines} {more = more} {old = old} {new = new} {group = group} {t = u} plays here_is told_is) j t at r cause bad is =
+  charged-along session groups from _ _ _ _ _ _ many begins j t at r cause bad is = absurd (cc)
+  charged-along session groups from _ _ _ _ _ _ many (goes {k = k} {told = told} {lines = lines} {more = more} {sent = sent} {served = served} {old = old} {new = new} {group = group} {t = u} plays here_is told_is) j t at r cause bad is =
       let long = length-append told (u ∷ []) in
       elim (push-cases told j u t at) [
         | inl o ↦ (
-            let c = charged-along session groups from k told lines old (omega arith) plays j t o r cause bad is in
+            let c = charged-along session groups from k told lines sent served old (omega arith) plays j t o r cause bad is in
             (c.0, charges-on session k group u.answer more old new (came state faults g session k group u.answer more old new told_is.comes) (charge_for c.0 cause) c.1))
         | inr n ↦ comes-charged session k group u.answer more r old new cause (ap (λ (x : Told). x.answer) n.1 ∙ bad) is told_is.comes
       ]
+  charged-along session groups from k told lines sent _ v many (serves {served = served} {more = ns} {old = old} plays are) j t at r cause bad is =
+      let keeps = keeps-served state faults session old ns v are in
+      let c = charged-along session groups from k told lines sent served old many plays j t at r cause bad is in
+      (c.0, subst (λ (cs : List Charge). Contains cs (charge_for c.0 cause)) (sym keeps.charged) (in-right keeps.charges old.reading.charged (charge_for c.0 cause) c.1))
 
 module _ {P : Type 0} (G : Ghosts P) (state : P → PortState) (faults : P → List PortFault) (g : Geometry) (ports : Ports P) (s : Standing) (scripts : List Script) (finish : Bool) (e : RunEnd P)
     (run : HasRunScripts G state faults g ports s scripts finish e) (short : All (λ script. IsShort script.groups) scripts) where
@@ -136,17 +141,17 @@ module _ {P : Type 0} (G : Ghosts P) (state : P → PortState) (faults : P → L
   is-charged t r cause c bad is =
       let b = told-in G state faults g ports s scripts finish e run short t c in
       let x = b.session in
-      let h = charged-along state faults g t.session x.script.groups (fresh run.opening t.session) (length b.track.told) b.track.told b.track.reads b.track.view refl x.played.plays t.group t b.at r cause bad is in
+      let h = charged-along state faults g t.session x.script.groups (fresh run.opening t.session) (length b.track.told) b.track.told b.track.reads _ _ b.track.view refl x.played.plays t.group t b.at r cause bad is in
       let kept : Contains x.last.reading.charged (charge_for h.0 cause) = subst (λ (cs : List Charge). Contains cs (charge_for h.0 cause)) (sym x.keeps.charged) (in-right x.keeps.charges b.track.view.reading.charged (charge_for h.0 cause) h.1) in
       (h.0, in-charged run.ends.left x.last (charge_for h.0 cause) (get-in run.ends.left t.session x.last x.last_at) kept)
 
   -- the faults of the ports that the desk was opened with, and of those that it gave back
-  taken : opened_faults G state faults file_group o ≡ faults_on faults ports
+  pub taken : opened_faults G state faults file_group o ≡ faults_on faults ports
   taken =
       let queues : map (λ q. faults q.pmr.port) o.sides ≡ map faults ports.queues.items = same-ports faults o.sides ∙ ap (map faults) run.opened.queues in
       λ i. record { queues = queues i; root = faults (run.opened.root i) }
 
-  given : faults_of faults (ports_of end) end.root.port ≡ faults_on faults e.ports
+  pub given : faults_of faults (ports_of end) end.root.port ≡ faults_on faults e.ports
   given = λ i. faults_of faults (sym run.ends.leaves.queues i) (sym run.ends.leaves.root i)
 
   pub charge-backed : (port : Turn) (cause : Cause) → Contains (charged_of run.ends.left) (charge_for port cause) → IsBehindAt g port (report_of cause) (faults_on faults ports) (faults_on faults e.ports)

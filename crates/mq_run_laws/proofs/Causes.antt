@@ -6,13 +6,13 @@ use Rattle.std.proofs.lemmas.Bool.{eqb-true, or_left, or_right, true≢false}
 use Rattle.std.proofs.lemmas.List.{length-map}
 use Rattle.std.proofs.lemmas.Option.{get_or_from_slice_get, slice_get_within}
 use Rattle.mq_blocks.specs.Drive.{FuseName, PortImage, PortState, no_fuse}
-use Rattle.mq_blocks.specs.Geometry.{home_lba}
+use Rattle.mq_blocks.specs.Geometry.{home_lba, homes_of}
 use Rattle.mq_blocks.specs.Journal.{Shown}
 use Rattle.mq_blocks.specs.declared.geometry.Geometry.{Geometry}
 use Rattle.mq_calls.specs.declared.answers.CallCause.TheVariants.{Drive}
 use Rattle.mq_calls.specs.declared.answers.Refusal.{Refusal}
 use Rattle.mq_drive.specs.Emu.{emu_faults, emu_state, executed_of}
-use Rattle.mq_drive.specs.Failures.{errors_of}
+use Rattle.mq_drive.specs.Failures.{errors_of, failed_of}
 use Rattle.mq_drive.specs.Limits.{fails_by}
 use Rattle.mq_drive.specs.Start.{IsPortOf, IsRole}
 use Rattle.mq_drive.specs.Steps.{CommandError, PortFault, HomeError, PowerOff}
@@ -34,7 +34,7 @@ use Rattle.mq_image_ops.specs.declared.ports.Failing.{Failing}
 use Rattle.mq_image_ops.proofs.Views.{start-queue}
 use Rattle.mq_journal.specs.Draining.{report_of}
 use Rattle.mq_ledger.specs.State.{no_port, port_at}
-use Rattle.mq_history.specs.Answers.{IsPortCause, IsUndone}
+use Rattle.mq_history.specs.Answers.{IsErrorOf, IsPortCause, IsUndone}
 use Rattle.mq_history.specs.Cuts.{IsCut}
 use Rattle.mq_history.specs.Histories.{AreOfBytes}
 use Rattle.mq_recover.specs.Drives.{AreBoundsKept, ArePorts, DriveFaults, DriveState, drive_of, faults_on}
@@ -51,6 +51,7 @@ use Rattle.mq_run.specs.Runs.{HasRunScripts}
 use Rattle.mq_run.specs.declared.end.RunEnd.{RunEnd}
 use Rattle.mq_script.specs.Scripts.{Script}
 use Rattle.mq_queue_side.specs.Laws.{NamesTransaction}
+use Rattle.mq_queue_side.specs.Side.{HasTx}
 use Rattle.mq_queue_side.specs.declared.answers.Cause.{Cause}
 use Rattle.mq_queue_side.specs.declared.answers.Cause.TheVariants.{Failed, FailedHome, Off, Stopped}
 use Rattle.mq_queue_side.specs.declared.answers.Why.{Why}
@@ -60,13 +61,12 @@ use Rattle.mq_tree.specs.Volume.{Volume}
 use Rattle.mq_turns.specs.Desk.{charged_of}
 use Rattle.mq_turns.specs.declared.turn.Turn.{Turn}
 use Rattle.mq_turns.specs.declared.turn.Turn.TheVariants.{Page, Root, Side}
-use Rattle.mq_run_laws.specs.Causes.{AreBacked, ArePortCauses, HasFailedCommand, HaveCountedAll, IsQueueCommit, IsOfCommand, IsOfPower, IsPoweredOff, IsStopOf, IsUntold}
-use Rattle.mq_run_laws.specs.Laws.{HavePortCauses}
+use Rattle.mq_run_laws.specs.Causes.{AreBacked, HasFailed, HasFailedHome, HasFailedTx, HaveCountedAll, IsQueueCommit, IsOfCommand, IsOfPower, IsPoweredOff, IsStopOf, IsUntold}
 use Rattle.mq_run_laws.proofs.BackedBlames.{charge-backed, charge_for, is-charged}
-use Rattle.mq_run_laws.proofs.DrivesFailures.{commit-of, of-root, undone}
+use Rattle.mq_run_laws.proofs.DrivesFailures.{commit-of, failed-shown, named-undone, of-root}
 use Rattle.mq_run_laws.proofs.EmuGained.{Stands, full-off, gained-stands, failed-by, home-block, never-off, off-among, offs_of}
 use Rattle.mq_run.proofs.LinesGrowing.{image_at}
-use Rattle.mq_run_laws.proofs.Pairs.{cons-cases, get-in, in-either, in-get, in-left, in-right, none-in}
+use Rattle.mq_run_laws.proofs.Pairs.{cons-cases, get-append, get-in, get-push, in-either, in-get, in-left, in-right, none-in}
 use Rattle.mq_run_laws.proofs.ViewsSaved as saved
 
 -- ---- the fault that a cause names
@@ -96,13 +96,13 @@ not-off zero (Some (Home w)) none c = elim (cons-cases PowerOff (HomeError w.lba
 
 -- ---- the ports of a drive in memory
 
-port-or-none : (ps : List EmuPort) (q : ℕ) → ((p : EmuPort) × (slice_get ps q ≡ Some p) × (slice_index_or (map emu_faults ps) q [] ≡ emu_faults p)) ⊎ (slice_index_or (map emu_faults ps) q [] ≡ [])
+pub port-or-none : (ps : List EmuPort) (q : ℕ) → ((p : EmuPort) × (slice_get ps q ≡ Some p) × (slice_index_or (map emu_faults ps) q [] ≡ emu_faults p)) ⊎ (slice_index_or (map emu_faults ps) q [] ≡ [])
 port-or-none [] q = inr refl
 port-or-none (p ∷ ps) zero = inl (p, refl, refl)
 port-or-none (p ∷ ps) (suc q) = port-or-none ps q
 
 -- the port stands under the turn
-abbrev IsUnder : Ports EmuPort → Turn → EmuPort → Type 0
+abbrev pub IsUnder : Ports EmuPort → Turn → EmuPort → Type 0
 IsUnder ports (Page b) p = ⊥
 IsUnder ports (Side q) p = slice_get ports.queues.items q ≡ Some p
 IsUnder ports Root p = p ≡ ports.root
@@ -165,6 +165,27 @@ named-port f q n fails = by (nat_eq f.port q) refl
     by : (b : Bool) → nat_eq f.port q ≡ b → f.port ≡ q
     by true is = eqb-true f.port q is
     by false is = absurd (true≢false (sym fails ∙ ap (λ (b : Bool). fails_by (if b then Some f.command else None) n) is))
+
+-- the failed command that a port shows is an error of it
+failed-command : (n : ℕ) (failure : Option Failure) → HasTx n (failed_of failure) → (f : Failure) × (failure ≡ Some f) × Contains (errors_of (Some f)) (CommandError n 640)
+failed-command n None has = absurd has
+failed-command n (Some (Queued c)) has = elim has [ inl is ↦ (Queued c, refl, (0, omega arith, ap (λ (m : ℕ). CommandError m 640) is)) | inr none ↦ absurd none ]
+failed-command n (Some (Home w)) has = absurd has
+
+-- a refusal for a command that failed names its transaction, and is of no root
+names-tx : (cause : Cause) (tx : ℕ) → IsOfCommand cause tx → NamesTransaction cause tx
+names-tx Off tx of = of
+names-tx (Failed n status) tx of = of
+names-tx (FailedHome block status) tx of = of
+names-tx (Stopped n why.Off) tx of = absurd of
+names-tx (Stopped n (why.Status status)) tx of = of
+
+never-root : (cause : Cause) (tx : ℕ) → IsOfCommand cause tx → IsOfRoot (report_of cause) → ⊥
+never-root Off tx of root = of
+never-root (Failed n status) tx of root = root
+never-root (FailedHome block status) tx of root = of
+never-root (Stopped n why.Off) tx of root = root
+never-root (Stopped n (why.Status status)) tx of root = root
 
 module _ (x : DriveImage) (scripts : List Script) (o : RunOptions) (r : ImageRun) (run : IsRunOf x scripts o r) (bytes : AreOfBytes scripts) where
   abbrev g : Geometry
@@ -262,16 +283,13 @@ module _ (x : DriveImage) (scripts : List Script) (o : RunOptions) (r : ImageRun
   of-power (FailedHome block status) t b is (inr stands) = absurd is
 
   -- the power is off for a group only where a port refused an event for it
-  pub power-off : (t : Told) (f : Refusal) (cause : Cause) → Contains r.answers.items t → t.answer ≡ Err f → f.cause ≡ Drive cause → IsOfPower cause → HasRefusedEvent
+  power-off : (t : Told) (f : Refusal) (cause : Cause) → Contains r.answers.items t → t.answer ≡ Err f → f.cause ≡ Drive cause → IsOfPower cause → HasRefusedEvent
   power-off t f cause c bad is of =
       let b = backed t f cause c bad is in
       off-of cause b.turn b.backs_it (of-power cause b.turn b.backs_it of b.backs_it.stands)
 
   none-refused : o.cut ≡ None → HasRefusedEvent → ⊥
   none-refused no_cut h = (let at = row-under new h.port h.own in not-off h.port.device.value.power.offs h.port.device.value.failure (on-always no_cut at.0 h.port at.1) h.off)
-
-  pub never-of-power : o.cut ≡ None → (t : Told) (f : Refusal) (cause : Cause) → Contains r.answers.items t → t.answer ≡ Err f → f.cause ≡ Drive cause → IsOfPower cause → ⊥
-  never-of-power no_cut t f cause c bad is of = none-refused no_cut (power-off t f cause c bad is of)
 
   -- a port refuses one after all events of the cut have happened
   powered-by : HasRefusedEvent → IsPoweredOff o r
@@ -281,92 +299,141 @@ module _ (x : DriveImage) (scripts : List Script) (o : RunOptions) (r : ImageRun
       by None no_cut = absurd (none-refused no_cut h)
       by (Some k) cut = (k, cut, last-cut k run.stopped.events run.stopped.driven.finished r.last (subst (λ (z : Option ℕ). IsLast z run.stopped.events run.stopped.driven.finished r.last) cut run.last) (run.stops.off k h.port (run.power ∙ cut) h.own h.off))
 
-  -- ---- commands that failed
-
-  failed-is : r.failed ≡ has_failed (row_of new)
-  failed-is = run.failed ∙ run.stops.drives.has.failed
-
-  -- the command of a queue's port that is to fail is the one that was asked of the port with this number
-  fail-at : (q : ℕ) (p : EmuPort) → slice_get new.queues.items q ≡ Some p → (emu_state p).fail ≡ command_of o.fail q
-  fail-at q p under =
-      let at = state-at q p under in
-      let low : q < run.recovered.image.geometry.queues = subst (λ (z : Geometry). q < z.queues) (sym same) at.0 in
-      ap (λ (s : PortState). s.fail) (sym at.1)
-      ∙ ((bounds.queues q at.0).fail
-      ∙ (ap (λ (d : DriveState). (port_at d.queues q).fail) run.stops.drives.started.states
-      ∙ ap (λ (s : PortState). s.fail) (start-queue run.fuse o.fail run.recovered.image q run.recovery.drive low)))
-
-  -- the command that was asked to fail has failed, on a port
-  record HasFailedOn (t : Turn) : Type 0 where
-    command : Failing
-    asked : o.fail ≡ Some command
-    failed : r.failed ≡ true
-    queue : (q : ℕ) → t ≡ Side q → command.port ≡ q
-
-  has-command : (t : Turn) (p : EmuPort) → IsUnder new t p → fails_by (emu_state p).fail (executed_of p) ≡ true → HasFailedOn t
-  has-command t p under fails = by o.fail refl
-    where
-      by : (fail : Option Failing) → o.fail ≡ fail → HasFailedOn t
-      by (Some f) is = record {
-        command = f;
-        asked = is;
-        failed = failed-is ∙ has-failed (row_of new) p (under-row new t p under) fails;
-        queue = λ q on. named-port f q (executed_of p) (sym (ap (λ (n : Option ℕ). fails_by n (executed_of p)) (fail-at q p (subst (λ (u : Turn). IsUnder new u p) on under) ∙ ap (λ (z : Option Failing). command_of z q) is)) ∙ fails);
-      }
-      by None is =
-          let none = bound-at (λ f n. n ≡ None) (λ k. ap (λ (z : Option Failing). command_of z k) is) refl t p under in
-          absurd (true≢false (sym fails ∙ ap (λ (n : Option ℕ). fails_by n (executed_of p)) none))
-
-  -- the transaction that a refusal names is a commit of the queue on whose port the command failed
-  on-port : (cause : Cause) (n : ℕ) (t : Turn) → Contains (charged_of ran.ends.left) (charge_for t cause) → NamesTransaction cause n → (IsOfRoot (report_of cause) → ⊥) → BacksCause g cause t new → (h : HasFailedOn t) → IsQueueCommit r.entries.items n h.command.port
-  on-port cause n (Page b) c named never backs_it h = absurd backs_it.under
-  on-port cause n Root c named never backs_it h = absurd (never (of-root emu_ghosts emu_state emu_faults (λ p. refl) g old (saved.standing x scripts o r run bytes) scripts (is_none o.cut) end ran cause c))
-  on-port cause n (Side q) c named never backs_it h =
-      let is = commit-of emu_ghosts emu_state emu_faults (λ p. refl) g old (saved.standing x scripts o r run bytes) scripts (is_none o.cut) end ran run.short q cause n c named in
-      subst (IsQueueCommit r.entries.items n) (sym (h.queue q refl)) (subst (λ es. IsQueueCommit es.items n q) (saved.entries-are x scripts o r run bytes) is)
-
-  of-command : (cause : Cause) (b : BackedBy cause) → IsOfCommand cause → (2 ^ 64 - 1 ≤ length (emu_faults b.backs_it.port)) ⊎ Stands b.backs_it.port (fault-for g cause) → HasFailedCommand o r cause ⊎ HaveCountedAll (row_of new)
-  of-command cause b is (inl many) = inr (b.backs_it.port, under-row new b.turn b.backs_it.port b.backs_it.under, many)
-  of-command (Failed tx status) b is (inr stands) =
-      let h = has-command b.turn b.backs_it.port b.backs_it.under (failed-by b.backs_it.port (Queued stands.0) stands.1) in
-      inl (h.command, h.asked, h.failed, on-port (Failed tx status) tx b.turn b.charged refl (λ no. no) b.backs_it h)
-  of-command (FailedHome block status) b is (inr stands) =
-      let h = has-command b.turn b.backs_it.port b.backs_it.under (failed-by b.backs_it.port (Home stands.0) stands.1) in
-      inl (h.command, h.asked, h.failed, tt)
-  of-command (Stopped tx (why.Status status)) b is (inr stands) =
-      let h = has-command b.turn b.backs_it.port b.backs_it.under (failed-by b.backs_it.port (Queued stands.0) stands.1) in
-      inl (h.command, h.asked, h.failed, on-port (Stopped tx (why.Status status)) tx b.turn b.charged refl (λ no. no) b.backs_it h)
-  of-command (Stopped tx why.Off) b is (inr stands) = absurd is
-  of-command Off b is (inr stands) = absurd is
-
-  -- A command has failed for a group only where one was to fail on the port of the cause, and was executed;
-  -- or a port counts no more faults.
-  pub command-failed : (t : Told) (f : Refusal) (cause : Cause) → Contains r.answers.items t → t.answer ≡ Err f → f.cause ≡ Drive cause → IsOfCommand cause → HasFailedCommand o r cause ⊎ HaveCountedAll (row_of new)
-  command-failed t f cause c bad is of = (let b = backed t f cause c bad is in of-command cause b of b.backs_it.stands)
-
-  -- its power was off
+  -- where a port has counted all its faults, its power was off
   refused-by : HaveCountedAll (row_of new) → HasRefusedEvent
   refused-by (p, own, many) = record { port = p; own = own; off = off-among p (full-off p many) }
 
   none-full : o.cut ≡ None → HaveCountedAll (row_of new) → ⊥
   none-full no_cut h = none-refused no_cut (refused-by h)
 
-  uncut-command : (cause : Cause) → o.cut ≡ None → HasFailedCommand o r cause ⊎ HaveCountedAll (row_of new) → HasFailedCommand o r cause
-  uncut-command cause no_cut (inl h) = h
-  uncut-command cause no_cut (inr full) = absurd (none-full no_cut full)
+  full : (t : Turn) (p : EmuPort) → IsUnder new t p → 2 ^ 64 - 1 ≤ length (emu_faults p) → HaveCountedAll (row_of new)
+  full t p under many = (p, under-row new t p under, many)
 
-  -- without a cut, a refusal for a drive's cause is for a command that failed
-  pub uncut-is-of-command : o.cut ≡ None → (t : Told) (f : Refusal) (cause : Cause) → Contains r.answers.items t → t.answer ≡ Err f → f.cause ≡ Drive cause → IsOfCommand cause × HasFailedCommand o r cause
-  uncut-is-of-command no_cut t f Off c bad is = absurd (never-of-power no_cut t f Off c bad is tt)
-  uncut-is-of-command no_cut t f (Stopped tx why.Off) c bad is = absurd (never-of-power no_cut t f (Stopped tx why.Off) c bad is tt)
-  uncut-is-of-command no_cut t f (Failed tx status) c bad is = (tt, uncut-command (Failed tx status) no_cut (command-failed t f (Failed tx status) c bad is tt))
-  uncut-is-of-command no_cut t f (FailedHome block status) c bad is = (tt, uncut-command (FailedHome block status) no_cut (command-failed t f (FailedHome block status) c bad is tt))
-  uncut-is-of-command no_cut t f (Stopped tx (why.Status status)) c bad is = (tt, uncut-command (Stopped tx (why.Status status)) no_cut (command-failed t f (Stopped tx (why.Status status)) c bad is tt))
+  pub untold : (t : Turn) (p : EmuPort) → IsUnder new t p → 2 ^ 64 - 1 ≤ length (emu_faults p) → IsUntold o r (row_of new)
+  untold t p under many = (let all = full t p under many in record { power = powered-by (refused-by all); counted = all })
 
-  pub are-backed : AreBacked o r (row_of new)
+  -- ---- the command that had to fail
+
+  failed-is : r.failed ≡ has_failed (row_of new)
+  failed-is = run.failed ∙ run.stops.drives.has.failed
+
+  -- the number of a port
+  abbrev number-at : Turn → ℕ
+  number-at (Page b) = 0
+  number-at (Side q) = q
+  number-at Root = g.queues
+
+  place-at : (t : Turn) (p : EmuPort) → IsUnder new t p → slice_get (row_of new) (number-at t) ≡ Some p
+  place-at (Page b) p under = absurd under
+  place-at (Side q) p under = get-append new.queues.items (new.root ∷ []) q p under
+  place-at Root p under =
+      let long = length-map new.queues.items emu_state in
+      let count = are-ports.count in
+      get-push new.queues.items g.queues new.root (omega arith) ∙ ap (λ (z : EmuPort). Some z) (sym under)
+
+  -- the command of a port that is to fail is the one that was asked of the port with this number
+  fail-at : (t : Turn) (p : EmuPort) → IsUnder new t p → (emu_state p).fail ≡ command_of o.fail (number-at t)
+  fail-at (Page b) p under = absurd under
+  fail-at (Side q) p under =
+      let at = state-at q p under in
+      let low : q < run.recovered.image.geometry.queues = subst (λ (z : Geometry). q < z.queues) (sym same) at.0 in
+      ap (λ (s : PortState). s.fail) (sym at.1)
+      ∙ ((bounds.queues q at.0).fail
+      ∙ (ap (λ (d : DriveState). (port_at d.queues q).fail) run.stops.drives.started.states
+      ∙ ap (λ (s : PortState). s.fail) (start-queue run.fuse o.fail run.recovered.image q run.recovery.drive low)))
+  fail-at Root p under =
+      ap (λ (z : EmuPort). (emu_state z).fail) under
+      ∙ (bounds.root.fail
+      ∙ (ap (λ (d : DriveState). d.root.fail) run.stops.drives.started.states
+      ∙ ap (λ (z : Geometry). command_of o.fail z.queues) same))
+
+  -- where a write of the port has failed, a command had to fail, and its port has this number
+  record HasFailedOn (t : Turn) : Type 0 where
+    command : Failing
+    asked : o.fail ≡ Some command
+    executed : r.failed ≡ true
+    number : command.port ≡ number-at t
+
+  has-command : (t : Turn) (p : EmuPort) → IsUnder new t p → fails_by (emu_state p).fail (executed_of p) ≡ true → HasFailedOn t
+  has-command t p under fails = by o.fail refl
+    where
+      named_at : (fail : Option Failing) → o.fail ≡ fail → fails_by (command_of fail (number-at t)) (executed_of p) ≡ true
+      named_at fail is = sym (ap (λ (n : Option ℕ). fails_by n (executed_of p)) (fail-at t p under ∙ ap (λ (z : Option Failing). command_of z (number-at t)) is)) ∙ fails
+
+      by : (fail : Option Failing) → o.fail ≡ fail → HasFailedOn t
+      by (Some f) is = record {
+        command = f;
+        asked = is;
+        executed = failed-is ∙ has-failed (row_of new) p (under-row new t p under) fails;
+        number = named-port f (number-at t) (executed_of p) (named_at (Some f) is);
+      }
+      by None is = absurd (true≢false (sym (named_at None is)))
+
+  -- the error of the port is that command's
+  error-on : (t : Turn) (p : EmuPort) (f : Failure) (error : PortFault) → IsUnder new t p → p.device.value.failure ≡ Some f → Contains (errors_of (Some f)) error → (h : HasFailed o r (row_of new) error) × (h.command.port ≡ number-at t)
+  error-on t p f error under is c =
+      let h = has-command t p under (failed-by p f is) in
+      let own : Contains (errors_of p.device.value.failure) error = subst (λ (z : Option Failure). Contains (errors_of z) error) (sym is) c in (
+        record {
+          command = h.command;
+          asked = h.asked;
+          executed = h.executed;
+          port = p;
+          named = ap (slice_get (row_of new)) h.number ∙ place-at t p under;
+          has = in-right (replicate p.device.value.power.offs PowerOff) (errors_of p.device.value.failure) error own;
+        },
+        h.number,
+      )
+
+  -- so it is of the transaction that a refusal names, which is a commit of the port's queue
+  tx-failed : (cause : Cause) (tx : ℕ) (t : Turn) (p : EmuPort) → IsUnder new t p → Contains (charged_of ran.ends.left) (charge_for t cause) → IsOfCommand cause tx → HasFailedTx o r (row_of new) tx
+  tx-failed cause tx (Page b) p under c of = absurd under
+  tx-failed cause tx Root p under c of = absurd (never-root cause tx of (of-root emu_ghosts emu_state emu_faults (λ p. refl) g old (saved.standing x scripts o r run bytes) scripts (is_none o.cut) end ran cause c))
+  tx-failed cause tx (Side q) p under c of =
+      let shown = failed-shown emu_ghosts emu_state emu_faults (λ p. refl) g old (saved.standing x scripts o r run bytes) scripts (is_none o.cut) end ran q cause tx c of in
+      let own : HasTx tx (emu_state p).failed = subst (λ (s : PortState). HasTx tx s.failed) (state-at q p under).1 shown in
+      let f = failed-command tx p.device.value.failure own in
+      let h = error-on (Side q) p f.0 (CommandError tx 640) under f.1 f.2 in
+      let is = commit-of emu_ghosts emu_state emu_faults (λ p. refl) g old (saved.standing x scripts o r run bytes) scripts (is_none o.cut) end ran run.short q cause tx c (names-tx cause tx of) in
+      let told : IsQueueCommit r.entries.items tx q = subst (λ es. IsQueueCommit es.items tx q) (saved.entries-are x scripts o r run bytes) is in
+      record { failed = h.0; commit = subst (IsQueueCommit r.entries.items tx) (sym h.1) told }
+
+  -- and it is the home write of the block that one names
+  home-failed : (block status : ℕ) (t : Turn) (p : EmuPort) → IsUnder new t p → Stands p (HomeError (home_lba g block) status) → HasFailedHome g o r (row_of new) block
+  home-failed block status t p under stands = (error-on t p (Home stands.0) (HomeError (home_lba g block) 640) under stands.1 (0, omega arith, ap (λ (l : ℕ). HomeError l 640) stands.2)).0
+
+  home-behind : (block status : ℕ) → BackedBy (FailedHome block status) → HasFailedHome g o r (row_of new) block ⊎ IsUntold o r (row_of new)
+  home-behind block status b = elim b.backs_it.stands [
+    | inl many ↦ inr (untold b.turn b.backs_it.port b.backs_it.under many)
+    | inr stands ↦ inl (home-failed block status b.turn b.backs_it.port b.backs_it.under stands)
+  ]
+
+  -- ---- what a cause says of the error
+
+  role-of : (t : Turn) (p : EmuPort) → IsUnder new t p → (z : Role) × IsRole g z × IsPortOf g z (emu_state p)
+  role-of (Page b) p under = absurd under
+  role-of (Side q) p under = (let at = state-at q p under in (role.Queue q, at.0, subst (λ (s : PortState). IsPortOf g (role.Queue q) s) at.1 (are-ports.each q at.0)))
+  role-of Root p under = (role.Root, tt, subst (λ (p : EmuPort). IsPortOf g role.Root (emu_state p)) (sym under) are-ports.root)
+
+  home-low : (block status : ℕ) (t : Turn) (p : EmuPort) → IsUnder new t p → Stands p (HomeError (home_lba g block) status) → block < homes_of g
+  home-low block status t p under stands = (let port = role-of t p under in home-block g port.0 p stands.0 block port.1 port.2 stands.1 stands.2)
+
+  error-holds : (cause : Cause) → BackedBy cause → IsErrorOf g cause ⊎ IsUntold o r (row_of new)
+  error-holds Off b = inl tt
+  error-holds (Stopped tx why.Off) b = inl tt
+  error-holds (Failed tx status) b = elim b.backs_it.stands [ inl many ↦ inr (untold b.turn b.backs_it.port b.backs_it.under many) | inr stands ↦ inl stands.3 ]
+  error-holds (FailedHome block status) b = elim b.backs_it.stands [
+    | inl many ↦ inr (untold b.turn b.backs_it.port b.backs_it.under many)
+    | inr stands ↦ inl (home-low block status b.turn b.backs_it.port b.backs_it.under stands, stands.3)
+  ]
+  error-holds (Stopped tx (why.Status status)) b = elim b.backs_it.stands [ inl many ↦ inr (untold b.turn b.backs_it.port b.backs_it.under many) | inr stands ↦ inl stands.3 ]
+
+  pub are-backed : AreBacked g o r (row_of new)
   are-backed = record {
     power = λ t cause c by of. powered-by (power-off t by.0 cause c by.1 by.2 of);
-    command = λ t cause c by of. command-failed t by.0 cause c by.1 by.2 of;
+    command = λ t cause tx c by of. (let b = backed t by.0 cause c by.1 by.2 in tx-failed cause tx b.turn b.backs_it.port b.backs_it.under b.charged of);
+    home = λ t block status c by. home-behind block status (backed t by.0 (FailedHome block status) c by.1 by.2);
+    errors = λ t cause c by. error-holds cause (backed t by.0 cause c by.1 by.2);
   }
 
   -- ---- what the cause says of the history
@@ -375,87 +442,45 @@ module _ (x : DriveImage) (scripts : List Script) (o : RunOptions) (r : ImageRun
     read : IsReadPrefix g (saved.seen x scripts o r run bytes) cut.ds cut.top
     read = subst (λ (i : Shown). IsReadPrefix g i cut.ds cut.top) (sym (saved.seen-is x scripts o r run bytes)) cut.read
 
-    undone-on : (q : ℕ) (cause : Cause) (n : ℕ) → Contains (charged_of ran.ends.left) (charge_for (Side q) cause) → NamesTransaction cause n → IsUndone g r.entries.items reached n
-    undone-on q cause n c named =
-        let u = undone emu_ghosts emu_state emu_faults (λ p. refl) g old (saved.standing x scripts o r run bytes) scripts (is_none o.cut) end ran run.short q cause n c named (queue_ports r.image) (root_port r.image) cut.ds cut.top (saved.images x scripts o r run bytes) read in
+    -- the transaction that a refusal names is undone
+    undone-by : (cause : Cause) (n : ℕ) → NamesTransaction cause n → (IsOfRoot (report_of cause) → ⊥) → BackedBy cause → IsUndone g r.entries.items reached n
+    undone-by cause n named never b =
+        let u = named-undone emu_ghosts emu_state emu_faults (λ p. refl) g old (saved.standing x scripts o r run bytes) scripts (is_none o.cut) end ran run.short cause n named never b.turn b.charged (queue_ports r.image) (root_port r.image) cut.ds cut.top (saved.images x scripts o r run bytes) read in
         subst (λ (z : ℕ). IsUndone g r.entries.items z n) (sym cut.reaches) (subst (λ es. IsUndone g es.items ((root_port r.image).base + length cut.ds) n) (saved.entries-are x scripts o r run bytes) u)
 
-    role-of : (t : Turn) (p : EmuPort) → IsUnder new t p → (z : Role) × IsRole g z × IsPortOf g z (emu_state p)
-    role-of (Page b) p under = absurd under
-    role-of (Side q) p under = (let at = state-at q p under in (role.Queue q, at.0, subst (λ (s : PortState). IsPortOf g (role.Queue q) s) at.1 (are-ports.each q at.0)))
-    role-of Root p under = (role.Root, tt, subst (λ (p : EmuPort). IsPortOf g role.Root (emu_state p)) (sym under) are-ports.root)
+    port-cause : (cause : Cause) → BackedBy cause → IsPortCause g r.entries.items reached cause
+    port-cause Off b = tt
+    port-cause (FailedHome block status) b = tt
+    port-cause (Failed tx status) b = undone-by (Failed tx status) tx refl (λ no. no) b
+    port-cause (Stopped tx w) b = undone-by (Stopped tx w) tx refl (λ no. no) b
 
-    abbrev Holds : Cause → Type 0
-    Holds cause = IsPortCause g r.entries.items reached cause ⊎ IsUntold (row_of new) cause
-
-    full : (cause : Cause) (t : Turn) (b : BacksCause g cause t new) → IsOfCommand cause → 2 ^ 64 - 1 ≤ length (emu_faults b.port) → Holds cause
-    full cause t b is many = inr (is, (b.port, under-row new t b.port b.under, many))
-
-    of-roots : (cause : Cause) → Contains (charged_of ran.ends.left) (charge_for Root cause) → IsOfRoot (report_of cause)
-    of-roots = of-root emu_ghosts emu_state emu_faults (λ p. refl) g old (saved.standing x scripts o r run bytes) scripts (is_none o.cut) end ran
-
-    -- a queue's command fails on the port of no queue but its own
-    failed-holds : (tx status : ℕ) (t : Turn) → Contains (charged_of ran.ends.left) (charge_for t (Failed tx status)) → (b : BacksCause g (Failed tx status) t new) → Stands b.port (CommandError tx status) → Holds (Failed tx status)
-    failed-holds tx status (Page b) c backs_it stands = absurd backs_it.under
-    failed-holds tx status (Side q) c backs_it stands = inl (undone-on q (Failed tx status) tx c refl, stands.3)
-    failed-holds tx status Root c backs_it stands = absurd (of-roots (Failed tx status) c)
-
-    stopped-at : (tx : ℕ) (w : Why) (t : Turn) → Contains (charged_of ran.ends.left) (charge_for t (Stopped tx w)) → BacksCause g (Stopped tx w) t new → IsUndone g r.entries.items reached tx
-    stopped-at tx w (Page b) c backs_it = absurd backs_it.under
-    stopped-at tx w (Side q) c backs_it = undone-on q (Stopped tx w) tx c refl
-    stopped-at tx w Root c backs_it = absurd (of-roots (Stopped tx w) c)
-
-    home-holds : (block status : ℕ) (t : Turn) (b : BacksCause g (FailedHome block status) t new) → Stands b.port (HomeError (home_lba g block) status) → Holds (FailedHome block status)
-    home-holds block status t b stands = (let port = role-of t b.port b.under in inl (home-block g port.0 b.port stands.0 block port.1 port.2 stands.1 stands.2, stands.3))
-
-    port-cause : (cause : Cause) → BackedBy cause → Holds cause
-    port-cause Off b = inl tt
-    port-cause (Stopped tx why.Off) b = inl (stopped-at tx why.Off b.turn b.charged b.backs_it, tt)
-    port-cause (Failed tx status) b = elim b.backs_it.stands [ inl many ↦ full (Failed tx status) b.turn b.backs_it tt many | inr stands ↦ failed-holds tx status b.turn b.charged b.backs_it stands ]
-    port-cause (FailedHome block status) b = elim b.backs_it.stands [ inl many ↦ full (FailedHome block status) b.turn b.backs_it tt many | inr stands ↦ home-holds block status b.turn b.backs_it stands ]
-    port-cause (Stopped tx (why.Status status)) b = elim b.backs_it.stands [
-      | inl many ↦ full (Stopped tx (why.Status status)) b.turn b.backs_it tt many
-      | inr stands ↦ inl (stopped-at tx (why.Status status) b.turn b.charged b.backs_it, stands.3)
-    ]
-
-    pub are-port-causes : ArePortCauses x r (row_of new) reached
-    are-port-causes = record {
-      holds = λ t cause c by. port-cause cause (backed t by.0 cause c by.1 by.2);
-      undone = λ t tx w c by. (let b = backed t by.0 (Stopped tx w) c by.1 by.2 in stopped-at tx w b.turn b.charged b.backs_it);
-    }
-
-    -- where each port counts its faults, all port causes hold
-    pub have-port-causes : (HaveCountedAll (row_of new) → ⊥) → HavePortCauses g r.entries.items reached r.answers.items
-    have-port-causes none t f cause c bad is = elim (port-cause cause (backed t f cause c bad is)) [
-      | inl holds ↦ holds
-      | inr untold ↦ absurd (none untold.1)
-    ]
-
-    -- the same without a cut
-    pub have-uncut : o.cut ≡ None → HavePortCauses g r.entries.items reached r.answers.items
-    have-uncut no_cut = have-port-causes (none-full no_cut)
+    pub have-port-causes : (t : Told) (f : Refusal) (cause : Cause) → Contains r.answers.items t → t.answer ≡ Err f → f.cause ≡ Drive cause → IsPortCause g r.entries.items reached cause
+    have-port-causes t f cause c bad is = port-cause cause (backed t f cause c bad is)
 
     -- ---- what stopped the run at its end
 
-    stop-holds : o.cut ≡ None → (why : Cause) → end.finished ≡ Some (Err (checkpoint.Drive why)) → (last : Last) → IsStop why last → IsStopOf g r.entries.items reached last
-    stop-holds no_cut why is = by why (port-cause why (backed-stop why is))
-      where
-        told : (cause : Cause) → Holds cause → IsPortCause g r.entries.items reached cause
-        told cause (inl holds) = holds
-        told cause (inr untold) = absurd (none-full no_cut untold.1)
+    abbrev Holds : Last → Type 0
+    Holds last = IsStopOf g o r (row_of new) reached last
 
-        by : (cause : Cause) → Holds cause → (last : Last) → IsStop cause last → IsStopOf g r.entries.items reached last
-        by Off h last stop = absurd stop
-        by (Failed tx status) h last stop = subst (IsStopOf g r.entries.items reached) (sym stop) (told (Failed tx status) h).0
-        by (FailedHome block status) h last stop = subst (IsStopOf g r.entries.items reached) (sym stop) (told (FailedHome block status) h).0
-        by (Stopped tx w) h last stop = subst (IsStopOf g r.entries.items reached) (sym stop) (told (Stopped tx w) h).0
+    stop-holds : o.cut ≡ None → (cause : Cause) → BackedBy cause → (last : Last) → IsStop cause last → Holds last
+    stop-holds no_cut Off b last stop = absurd stop
+    stop-holds no_cut (Failed tx status) b last stop =
+        subst Holds (sym stop) (undone-by (Failed tx status) tx refl (λ no. no) b, tx-failed (Failed tx status) tx b.turn b.backs_it.port b.backs_it.under b.charged refl)
+    stop-holds no_cut (FailedHome block status) b last stop = elim b.backs_it.stands [
+      | inl many ↦ absurd (none-full no_cut (full b.turn b.backs_it.port b.backs_it.under many))
+      | inr stands ↦ subst Holds (sym stop) (home-low block status b.turn b.backs_it.port b.backs_it.under stands, home-failed block status b.turn b.backs_it.port b.backs_it.under stands)
+    ]
+    stop-holds no_cut (Stopped tx why.Off) b last stop =
+        absurd (none-refused no_cut (off-of (Stopped tx why.Off) b.turn b.backs_it (of-power (Stopped tx why.Off) b.turn b.backs_it tt b.backs_it.stands)))
+    stop-holds no_cut (Stopped tx (why.Status status)) b last stop =
+        subst Holds (sym stop) (undone-by (Stopped tx (why.Status status)) tx refl (λ no. no) b, tx-failed (Stopped tx (why.Status status)) tx b.turn b.backs_it.port b.backs_it.under b.charged refl)
 
-    stopped-by : (cut : Option ℕ) (events : ℕ) (finished : Option (Result ℕ CheckpointRefusal)) (last : Last) → o.cut ≡ cut → end.finished ≡ finished → IsLast cut events finished last → IsStopOf g r.entries.items reached last
-    stopped-by (Some k) events finished last cut is told = subst (IsStopOf g r.entries.items reached) (sym told) tt
-    stopped-by None events (Some (Ok n)) last cut is told = subst (IsStopOf g r.entries.items reached) (sym told) tt
-    stopped-by None events (Some (Err (checkpoint.Drive why))) last cut is told = stop-holds cut why is last told
+    stopped-by : (cut : Option ℕ) (events : ℕ) (finished : Option (Result ℕ CheckpointRefusal)) (last : Last) → o.cut ≡ cut → end.finished ≡ finished → IsLast cut events finished last → Holds last
+    stopped-by (Some k) events finished last cut is told = subst Holds (sym told) tt
+    stopped-by None events (Some (Ok n)) last cut is told = subst Holds (sym told) tt
+    stopped-by None events (Some (Err (checkpoint.Drive why))) last cut is told = stop-holds cut why (backed-stop why is) last told
     stopped-by None events (Some (Err checkpoint.OutOfMemory)) last cut is told = absurd told
     stopped-by None events None last cut is told = absurd told
 
-    pub is-stop : IsStopOf g r.entries.items reached r.last
+    pub is-stop : IsStopOf g o r (row_of new) reached r.last
     is-stop = stopped-by o.cut run.stopped.events end.finished r.last refl refl (subst (λ f. IsLast o.cut run.stopped.events f r.last) (saved.end-finished x scripts o r run bytes) run.last)

@@ -35,6 +35,7 @@ use Rattle.mq_queue_side.specs.declared.side.QueueSide.{QueueSide}
 use Rattle.mq_tie.specs.Runs.{ports_of}
 use Rattle.mq_turns.specs.Lists.{Each}
 use Rattle.mq_run.proofs.LawsFinished.{finished-clean}
+use Rattle.mq_run.proofs.RunsHelpers.{all-left}
 use Rattle.mq_run.specs.Ending.{Finishes}
 use Rattle.mq_run.specs.Playing.{IsShort}
 use Rattle.mq_run.specs.Runs.{HasRunScripts}
@@ -78,8 +79,8 @@ module _ {P : Type 0} (G : Ghosts P) (state : P → PortState) (faults : P → L
   word-high =
       let fin = run.ends.finished in
       let answered : Finishes state faults (Some (Ok n)) fin.others fin.first fin.last = subst (λ a. Finishes state faults a fin.others fin.first fin.last) is fin.finishes in
-      let both : Each (λ (v : Seat P FileEntry G). v.reading.base ≤ K.word) (fin.last ∷ fin.others) = subst (Each (λ (v : Seat P FileEntry G). v.reading.base ≤ K.word)) fin.after run.ends.run.end.based in
-      let low = both.0 in
+      let first = subst (Each (λ (v : Seat P FileEntry G). v.reading.base ≤ K.word)) (all-left G state faults g ports s scripts finish e run) run.ends.run.end.based in
+      let low : fin.last.reading.base ≤ K.word = first.0 in
       let told = answered.2.word in
       omega arith
 

@@ -1,7 +1,7 @@
 -- The transaction that a refusal names is a commit among the lines, and no image of the ports at the end
 -- reaches it.
 use Rattle.std.proofs.Common.{◌≡◌, ◌∙◌, ℕ, ◌+◌, ◌<◌, ◌≤◌, Bool, true, false, cond, List, [], ◌∷◌, length, map, inl, inr, refl, sym, ap, subst, arith}
-use Rattle.std.specs.Prelude.{Err, Some, reverse, slice_get}
+use Rattle.std.specs.Prelude.{Err, Option, Some, reverse, slice_get}
 use Rattle.std.specs.List.{All, Contains}
 use Rattle.std.proofs.lemmas.Bool.{eq-eqb, true≢false}
 use Rattle.std.proofs.lemmas.List.{length-reverse}
@@ -10,6 +10,7 @@ use Rattle.mq_nvme.specs.Says.{journal_reading}
 use Rattle.mq_blocks.specs.Descriptor.{Descriptor}
 use Rattle.mq_blocks.specs.Drive.{IsImage, PortImage, PortState, staged_end}
 use Rattle.mq_blocks.specs.Journal.{image_at, shown}
+use Rattle.mq_blocks.specs.declared.command.Command.{Command}
 use Rattle.mq_blocks.specs.declared.geometry.Geometry.{Geometry}
 use Rattle.mq_core.proofs.StateCuts.{cut_of}
 use Rattle.mq_calls.specs.declared.answers.CallCause.TheVariants.{Drive}
@@ -28,7 +29,8 @@ use Rattle.mq_ledger.specs.History.{of_queue, writes}
 use Rattle.mq_ledger.specs.Items.{descriptor_blocks, end_of}
 use Rattle.mq_ledger.specs.State as machine
 use Rattle.mq_ledger.specs.State.{State, no_port, port_at}
-use Rattle.mq_history.specs.Answers.{IsUndone}
+use Rattle.mq_ledger.specs.declared.tx.Tx.{Tx}
+use Rattle.mq_history.specs.Answers.{IsPortCause, IsUndone}
 use Rattle.mq_pmr.specs.Queue.{times}
 use Rattle.mq_recover.specs.Drives.{AreImages, drive_of}
 use Rattle.mq_recover.specs.Recovery.{IsReadPrefix}
@@ -42,8 +44,10 @@ use Rattle.mq_desk_laws.specs.Values.{Values}
 use Rattle.mq_script.specs.Scripts.{Script}
 use Rattle.mq_queue_side.specs.Laws.{NamesTransaction}
 use Rattle.mq_queue_side.specs.declared.answers.Cause.{Cause}
-use Rattle.mq_queue_side.specs.declared.answers.Cause.TheVariants.{Stopped}
+use Rattle.mq_queue_side.specs.Side.{HasTx}
+use Rattle.mq_queue_side.specs.declared.answers.Cause.TheVariants.{Failed, FailedHome, Off, Stopped}
 use Rattle.mq_queue_side.specs.declared.answers.Why.{Why}
+use Rattle.mq_queue_side.specs.declared.answers.Why.TheVariants as why
 use Rattle.mq_queue_side.specs.declared.root.Root.{Root}
 use Rattle.mq_queue_side.specs.declared.side.QueueSide.{QueueSide}
 use Rattle.mq_tie.proofs.BackedCharges.{holds-of}
@@ -60,7 +64,7 @@ use Rattle.mq_turns.specs.declared.turn.Turn.TheVariants as turn
 use Rattle.mq_run.specs.Playing.{IsShort}
 use Rattle.mq_run.specs.Runs.{HasRunScripts}
 use Rattle.mq_run.specs.declared.end.RunEnd.{RunEnd}
-use Rattle.mq_run_laws.specs.Causes.{IsQueueCommit}
+use Rattle.mq_run_laws.specs.Causes.{IsOfCommand, IsQueueCommit}
 use Rattle.mq_run_laws.proofs.BackedBlames.{charge_for, is-charged}
 use Rattle.mq_run_laws.proofs.Cuts.{ends, many-txs, parts}
 use Rattle.mq_run_laws.proofs.LinesNumbered.{entry-at, once-at}
@@ -81,6 +85,14 @@ module _ (q : ℕ) (R : Report → Type 0) where
       by : (Each R (reports_of (Side q) cs) → Charged cs) → (b : Bool) → same_turn (Side q) c.port ≡ b → Each R (cond b (c.report ∷ reports_of (Side q) cs) (reports_of (Side q) cs)) → Charged (c ∷ cs)
       by rest true own each = ((λ is. each.0), rest each.1)
       by rest false other each = ((λ is. absurd (true≢false (sym (eq-eqb q q refl) ∙ (ap (same_turn (Side q)) (sym is) ∙ other)))), rest each)
+
+-- a side shows a failed command of the transaction that such a refusal names
+failed-named : (from : ℕ) (us : List Tx) (doorbell : ℕ) (failed : List Command) (kept : Option (ℕ × Why)) (cause : Cause) (n : ℕ) → IsOfCommand cause n → Shows from us doorbell failed kept (report_of cause) → HasTx n failed
+failed-named from us doorbell failed kept Off n of shows = absurd of
+failed-named from us doorbell failed kept (FailedHome block status) n of shows = absurd of
+failed-named from us doorbell failed kept (Failed tx status) n of shows = subst (λ (m : ℕ). HasTx m failed) of shows.1
+failed-named from us doorbell failed kept (Stopped tx why.Off) n of shows = absurd of
+failed-named from us doorbell failed kept (Stopped tx (why.Status status)) n of shows = subst (λ (m : ℕ). HasTx m failed) of shows.1
 
 module _ {P : Type 0} (G : Ghosts P) (state : P → PortState) (faults : P → List PortFault) (same : (p : P) → G.state p ≡ state p) (g : Geometry) (ports : Ports P) (s : Standing) (scripts : List Script) (finish : Bool) (e : RunEnd P)
     (run : HasRunScripts G state faults g ports s scripts finish e) where
@@ -140,6 +152,14 @@ module _ {P : Type 0} (G : Ghosts P) (state : P → PortState) (faults : P → L
 
   undone-at : (q : ℕ) (cause : Cause) (n : ℕ) → Contains reports (charge_for (Side q) cause) → NamesTransaction cause n → (x : SideAt q) → IsUndoneOn (core_of values file_group K) q n (state x.side.pmr.port)
   undone-at q cause n c named x = undone-shown (core_of values file_group K) q (state x.side.pmr.port) x.stands.port x.side.kept cause n (none-failed x.side) named (shows-of q cause c x)
+
+  -- a command of the transaction that is named has failed on the port of the side
+  pub failed-shown : (q : ℕ) (cause : Cause) (n : ℕ) → Contains reports (charge_for (Side q) cause) → IsOfCommand cause n → HasTx n (port_at (map state e.ports.queues.items) q).failed
+  failed-shown q cause n c of =
+      let x = side-at q (side-low q cause c) in
+      let given : map state e.ports.queues.items ≡ map state (ports_of run.ends.end) = ap (map state) run.ends.leaves.queues in
+      let port : port_at (map state e.ports.queues.items) q ≡ state x.side.pmr.port = ap (λ (ps : List PortState). port_at ps q) given ∙ x.port in
+      subst (λ (p : PortState). HasTx n p.failed) (sym port) (failed-named (doorbell_of values file_group K.opening q) (own_of values file_group q K) (state x.side.pmr.port).doorbell (state x.side.pmr.port).failed x.side.kept cause n of (shows-of q cause c x))
 
   -- ---- what an image reaches
 
@@ -228,14 +248,20 @@ module _ {P : Type 0} (G : Ghosts P) (state : P → PortState) (faults : P → L
           above = above q n x u queues root ds top images read;
         }
 
-    stopped-at : (tx : ℕ) (w : Why) (t : Turn) → Contains reports (charge_for t (Stopped tx w)) → (queues : List PortImage) (root : PortImage) (ds : List Descriptor) (top : ℕ) → AreImages g (drive_of state e.ports) queues root → IsReadPrefix g (shown journal_reading g queues root) ds top → IsUndone g e.entries.items (root.base + length ds) tx
-    stopped-at tx w (turn.Page b) c queues root ds top images read = absurd (holds-of reports K.charges (charge_for (turn.Page b) (Stopped tx w)) run.ends.run.end.charges c (IsOfPort (length K.opening.sides)) run.ends.run.end.ok.ports).0
-    stopped-at tx w (Side q) c queues root ds top images read = undone q (Stopped tx w) tx c refl queues root ds top images read
-    stopped-at tx w turn.Root c queues root ds top images read = absurd (of-root (Stopped tx w) c)
+    -- so is one that is named by a refusal that was reported of some port
+    pub named-undone : (cause : Cause) (n : ℕ) → NamesTransaction cause n → (IsOfRoot (report_of cause) → ⊥) → (t : Turn) → Contains reports (charge_for t cause) → (queues : List PortImage) (root : PortImage) (ds : List Descriptor) (top : ℕ) → AreImages g (drive_of state e.ports) queues root → IsReadPrefix g (shown journal_reading g queues root) ds top → IsUndone g e.entries.items (root.base + length ds) n
+    named-undone cause n named never (turn.Page b) c queues root ds top images read = absurd (holds-of reports K.charges (charge_for (turn.Page b) cause) run.ends.run.end.charges c (IsOfPort (length K.opening.sides)) run.ends.run.end.ok.ports).0
+    named-undone cause n named never (Side q) c queues root ds top images read = undone q cause n c named queues root ds top images read
+    named-undone cause n named never turn.Root c queues root ds top images read = absurd (never (of-root cause c))
 
-    -- the transaction that stays undone by a refusal is
-    pub stopped-undone : (queues : List PortImage) (root : PortImage) (ds : List Descriptor) (top : ℕ) → AreImages g (drive_of state e.ports) queues root → IsReadPrefix g (shown journal_reading g queues root) ds top
-        → (t : Told) (r : Refusal) (tx : ℕ) (w : Why) → Contains e.answers.items t → t.answer ≡ Err r → r.cause ≡ Drive (Stopped tx w) → IsUndone g e.entries.items (root.base + length ds) tx
-    stopped-undone queues root ds top images read t r tx w c bad is =
+    -- what the cause of a refusal says of the history holds on each image
+    pub cause-holds : (queues : List PortImage) (root : PortImage) (ds : List Descriptor) (top : ℕ) → AreImages g (drive_of state e.ports) queues root → IsReadPrefix g (shown journal_reading g queues root) ds top
+        → (t : Told) (r : Refusal) (cause : Cause) → Contains e.answers.items t → t.answer ≡ Err r → r.cause ≡ Drive cause → IsPortCause g e.entries.items (root.base + length ds) cause
+    cause-holds queues root ds top images read t r Off c bad is = tt
+    cause-holds queues root ds top images read t r (FailedHome block status) c bad is = tt
+    cause-holds queues root ds top images read t r (Failed tx status) c bad is =
+        let h = is-charged G state faults g ports s scripts finish e run short t r (Failed tx status) c bad is in
+        named-undone (Failed tx status) tx refl (λ no. no) h.0 h.1 queues root ds top images read
+    cause-holds queues root ds top images read t r (Stopped tx w) c bad is =
         let h = is-charged G state faults g ports s scripts finish e run short t r (Stopped tx w) c bad is in
-        stopped-at tx w h.0 h.1 queues root ds top images read
+        named-undone (Stopped tx w) tx refl (λ no. no) h.0 h.1 queues root ds top images read

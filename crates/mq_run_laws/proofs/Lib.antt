@@ -15,6 +15,9 @@ pub mod HistoriesRung
 pub mod ActsReasons
 pub mod AnswersCaused
 pub mod BackedBlames
+pub mod SumsLists
+pub mod SumsPlayed
+pub mod SumsPorts
 pub mod JournalReached
 pub mod ItemsUndone
 pub mod EmuGained
@@ -24,4 +27,6 @@ pub mod ViewsFiles
 pub mod ViewsSaved
 pub mod Causes
 pub mod CausesEnds
+pub mod Complete
+pub mod SumsImages
 pub mod Images

@@ -16,25 +16,15 @@ use Rattle.mq_journal.specs.Numbers.{Seat, Shared}
 use Rattle.mq_turns.specs.Desk.{charged_of, drawn_of, read_of}
 use Rattle.mq_turns.specs.declared.rule.Charge.{Charge}
 use Rattle.mq_run.specs.Ending.{Finishes, HasFinished}
+use Rattle.mq_run.proofs.ServedNotices.{Keeps, keeps-self}
 use Rattle.mq_run_laws.proofs.Pairs.{cons-cases, here, in-either, in-left, in-right, none-in, there}
 
 module _ {P : Type 0} {G : Ghosts P} where
-  -- It has drawn and read the same, and knows of no lesser done numbers.
-  pub record Keeps (old new : Seat P FileEntry G) : Type 0 where
-    pub drawn : new.drawn ≡ old.drawn
-    pub read : new.read ≡ old.read
-    pub done : old.reading.done ≤ new.reading.done
-    pub charges : List Charge
-    pub charged : new.reading.charged ≡ charges ++ old.reading.charged
-
   abbrev pub Knower : List (Seat P FileEntry G) → ℕ → Seat P FileEntry G → Type 0
   Knower news i old = (new : Seat P FileEntry G) × (slice_get news i ≡ Some new) × Keeps old new
 
   abbrev pub Known : List (Seat P FileEntry G) → ℕ → Seat P FileEntry G → Type 0
   Known olds i new = (old : Seat P FileEntry G) × (slice_get olds i ≡ Some old) × Keeps old new
-
-  keeps-self : (v : Seat P FileEntry G) → Keeps v v
-  keeps-self v = record { drawn = refl; read = refl; done = omega arith; charges = []; charged = refl }
 
   -- ---- what all have drawn and read
 

@@ -91,7 +91,7 @@ module _ {P : Type 0} {G : Ghosts P} where
 module _ {P : Type 0} {G : Ghosts P} (state : P → PortState) (faults : P → List PortFault) (g : Geometry) where
   -- ---- where a group was run
 
-  begins-same : (c : Call) (old from : Seat P FileEntry G) → Begins state faults g c old from → (from.drawn ≡ old.drawn) × (from.read ≡ old.read) × (from.reading.charged ≡ old.reading.charged)
+  pub begins-same : (c : Call) (old from : Seat P FileEntry G) → Begins state faults g c old from → (from.drawn ≡ old.drawn) × (from.read ≡ old.read) × (from.reading.charged ≡ old.reading.charged)
   begins-same c old _ at_once = (refl, refl, refl)
   begins-same c old from (again made) = (made.raises.drawn ∙ made.full.keeps.rests.drawn, made.raises.read_before ∙ made.full.keeps.rests.read, made.raises.charged ∙ made.full.keeps.charged)
 

@@ -42,15 +42,17 @@ use Rattle.mq_turns.specs.Lists.{Each}
 use Rattle.mq_turns.specs.Meaning.{Grows, HasNumberAt, Meaning, newest}
 use Rattle.mq_run.proofs.LinesGrowing.{image_at}
 use Rattle.mq_run.proofs.Parts.{image_from, partner}
+use Rattle.mq_run.proofs.RunsHelpers.{helpers-drew}
+use Rattle.mq_run.proofs.ServedNotices.{Keeps}
 use Rattle.mq_run.specs.Lines.{AreCommitLines, IsNotAfter, end_of, joined}
 use Rattle.mq_run.specs.Playing.{HasPlayed, IsShort}
 use Rattle.mq_run.specs.Runs.{HasRunScripts, Track}
 use Rattle.mq_run.specs.declared.end.RunEnd.{RunEnd}
 use Rattle.mq_run_laws.proofs.LinesBuilding.{DifferIn, HasLineAt, Kind, build, drawn, seen}
 use Rattle.mq_run_laws.proofs.LinesNumbered.{commit-has, commit-of, commit-rising, do-at, entry-at, group-found, older, once-at, small-rest, sorted-cases}
-use Rattle.mq_run_laws.proofs.Pairs.{each-in, get-in, in-either, in-get, in-left, joined-in, pairs-append, pairs-joined, pairs-map, pairs-permuted, same-get, times-in}
+use Rattle.mq_run_laws.proofs.Pairs.{each-in, get-append, get-in, in-either, in-get, in-left, joined-in, none-in, pairs-append, pairs-joined, pairs-map, pairs-permuted, same-get, times-in}
 use Rattle.mq_run_laws.proofs.AnswersPlayed.{Tells, tells}
-use Rattle.mq_run_laws.proofs.NumbersViews.{Keeps, after-finish, before-finish, drawn-in, in-drawn, in-read}
+use Rattle.mq_run_laws.proofs.NumbersViews.{after-finish, before-finish, drawn-in, in-drawn, in-read}
 
 -- the one line is that of an earlier group of the session: its number is not above the other's, and below
 -- it where that one is a commit
@@ -115,6 +117,9 @@ module _ {P : Type 0} (G : Ghosts P) (state : P → PortState) (faults : P → L
   abbrev pub views : List (Seat P FileEntry G)
   views = map (λ t. t.view) run.tracks
 
+  abbrev helpers : List (Seat P FileEntry G)
+  helpers = map (λ t. t.helper) run.tracks
+
   pub base-is : K.opening.base ≡ s.base
   base-is = ap (λ (x : Start P FileEntry G). x.base) run.ends.run.end.opening ∙ run.opened.base
 
@@ -129,7 +134,7 @@ module _ {P : Type 0} (G : Ghosts P) (state : P → PortState) (faults : P → L
   pub record Session (i : ℕ) (t : Track P G) : Type 0 where
     pub script : Script
     pub at : slice_get scripts i ≡ Some script
-    pub played : HasPlayed state faults g i script.groups t.told t.reads (fresh o i) t.view
+    pub played : HasPlayed state faults g i script.groups t.told t.reads t.sent t.mine (fresh o i) t.view
     pub tells : Tells g i script.groups (length t.told) t.told t.reads t.view
     pub last : Seat P FileEntry G
     pub last_at : slice_get run.ends.left i ≡ Some last
@@ -140,14 +145,14 @@ module _ {P : Type 0} (G : Ghosts P) (state : P → PortState) (faults : P → L
       let script : Script = get_or scripts i (record { groups = [] }) in
       let here_is : slice_get scripts i ≡ Some script = partner run.tracks scripts i t (record { groups = [] }) run.many at in
       let played = run.played i script t here_is at in
-      let after = after-finish state faults finish e.finished views run.ends.left run.ends.finished i t.view (image_at (λ (u : Track P G). u.view) run.tracks i t at) in
+      let after = after-finish state faults finish e.finished views run.ends.sessions run.ends.finished i t.view (image_at (λ (u : Track P G). u.view) run.tracks i t at) in
       record {
         script = script;
         at = here_is;
         played = played;
-        tells = tells state faults g i script.groups (fresh o i) (length t.told) t.told t.reads t.view refl played.plays;
+        tells = tells state faults g i script.groups (fresh o i) (length t.told) t.told t.reads _ _ t.view refl played.plays;
         last = after.0;
-        last_at = after.1;
+        last_at = ap (λ (vs : List (Seat P FileEntry G)). slice_get vs i) run.ends.left_are ∙ get-append run.ends.sessions helpers i after.0 after.1;
         keeps = after.2;
       }
 
@@ -157,6 +162,15 @@ module _ {P : Type 0} (G : Ghosts P) (state : P → PortState) (faults : P → L
       let x = session-of i t at in
       let own : Contains x.last.drawn d = subst (λ ds. Contains ds d) (sym x.keeps.drawn) c in
       each-in (λ d. HasNumberAt K.opening.base K.log d.0 d.1) (drawn_of run.ends.left) d run.ends.run.end.drew (in-drawn run.ends.left x.last d (get-in run.ends.left i x.last x.last_at) own)
+
+  -- who has drawn something is no helper
+  drawing : (v : Seat P FileEntry G) (d : ℕ × FileEntry) → Contains run.ends.left v → Contains v.drawn d → Contains run.ends.sessions v
+  drawing v d c has = elim (in-either run.ends.sessions helpers v (subst (λ (vs : List (Seat P FileEntry G)). Contains vs v) run.ends.left_are c)) [
+    | inl own ↦ own
+    | inr other ↦ (
+        let none : v.drawn ≡ [] = each-in (λ (w : Seat P FileEntry G). w.drawn ≡ []) helpers v (helpers-drew G state faults g ports s scripts finish e run) other in
+        absurd (none-in d (subst (λ (ds : List (ℕ × FileEntry)). Contains ds d) none has)))
+  ]
 
   -- and each entry of the history was drawn by one
   pub record DrawnAt (n : ℕ) (f : FileEntry) : Type 0 where
@@ -172,8 +186,8 @@ module _ {P : Type 0} (G : Ghosts P) (state : P → PortState) (faults : P → L
       let one = run.ends.run.end.once n (omega arith) (omega arith) in
       let some = times-in n (drawn_of run.ends.left) (omega arith) in
       let by = drawn-in run.ends.left (n, some.0) some.1 in
-      let place = in-get run.ends.left by.0 by.1 in
-      let before = before-finish state faults finish e.finished views run.ends.left run.ends.finished place.0 by.0 place.1 in
+      let place = in-get run.ends.sessions by.0 (drawing by.0 (n, some.0) by.1 by.2) in
+      let before = before-finish state faults finish e.finished views run.ends.sessions run.ends.finished place.0 by.0 place.1 in
       let of = image_from (λ (t : Track P G). t.view) run.tracks place.0 before.0 before.1 in
       let there_is : Contains of.0.view.drawn (n, some.0) = subst (λ (ds : List (ℕ × FileEntry)). Contains ds (n, some.0)) {y = of.0.view.drawn} (before.2.drawn ∙ ap (λ (v : Seat P FileEntry G). v.drawn) (sym of.2)) by.2 in
       let same = once-at K.opening.base K.log n some.0 f (drawn-stands place.0 of.0 (n, some.0) of.1 there_is) is in

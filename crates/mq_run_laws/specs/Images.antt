@@ -1,6 +1,7 @@
 -- What a run of scripts on an image promises.
-use Rattle.std.specs.Prelude.{◌≡◌, ◌<◌, ℕ, false, List, None}
+use Rattle.std.specs.Prelude.{◌≡◌, ◌<◌, ℕ, Bool, false, List, None}
 use Rattle.mq_blocks.specs.Geometry.{queues_of}
+use Rattle.mq_drive.specs.Steps.{PortFault}
 use Rattle.mq_image.specs.Drives.{IsRead}
 use Rattle.mq_image.specs.Faults.{HasFault}
 use Rattle.mq_image.specs.File.{DriveImage, image_bytes}
@@ -12,8 +13,8 @@ use Rattle.mq_history.specs.Answers.{AreAnswered, AreCaused}
 use Rattle.mq_history.specs.Cuts.{IsClean, IsCut, IsRung, Starts}
 use Rattle.mq_history.specs.Histories.{AreOfBytes}
 use Rattle.mq_history.specs.Legal.{IsLegal, newest, volume_at}
-use Rattle.mq_run_laws.specs.Causes.{AreBacked, ArePortCauses, HaveCountedAll, IsEndOf, IsStopOf, ports_of}
-use Rattle.mq_run_laws.specs.Laws.{HavePortCauses}
+use Rattle.mq_run_laws.specs.Causes.{AreBacked, IsChargedOnce, IsEndOf, IsStopOf, ports_of}
+use Rattle.mq_run_laws.specs.Complete.{HaveWanted, IsComplete}
 use Rattle.mq_run_laws.specs.Recovering.{HoldsVolume, LeadsTo}
 use Rattle.mq_report.specs.declared.line.Last.TheVariants.{Clean}
 use Rattle.mq_script.specs.Scripts.{Script}
@@ -24,13 +25,12 @@ use Rattle.mq_tree.specs.Volume.{Volume}
 -- number that is not below any that `fsync` has answered, and stands for the volume there. Its file is one
 -- of an image, and whatever recovery of what is read of the file leads to has this volume on its home
 -- blocks. Each doorbell has gone on by the entries of its queue's commits in a prefix of the lines, which
--- has each that was answered `ok`. Each refusal has its cause in the scripts and the history, as far as
--- what the causes of ports say of the history holds: all of it holds without a cut, and with one unless a
--- port has as many faults as a count of 64 bits can say. A refusal for a drive's cause comes from what was
--- asked of the drive. Without a cut, and if no command failed, the run ended clean. With a cut the last
--- line gives the number of events that happened. If the run was stopped at its end, the transaction that
--- its last line names is undone, and the block is one of the drive. If it ended clean, the number in the
--- last line is the last one, and the image is clean.
+-- has each that was answered `ok`. Each refusal has its cause in the scripts and the history, and one for a
+-- drive's cause comes from what was asked of the drive, and charges a fault of its own. Without a cut, and if
+-- no command failed, the run ended clean; and it is complete where no command was to fail and memory ran out
+-- for no group. With a cut the last line gives the number of events that happened. If the run was stopped at
+-- its end, the transaction or the block that its last line names is of the command that had to fail. If it
+-- ended clean, the number in the last line is the last one, and the image is clean.
 pub record KeepsPromise (x : DriveImage) (scripts : List Script) (o : RunOptions)
     (r : ImageRun) : Type 0 where
   pub volume : Volume
@@ -45,20 +45,17 @@ pub record KeepsPromise (x : DriveImage) (scripts : List Script) (o : RunOptions
   pub rung : (q : ℕ) → q < queues_of x.geometry
       → IsRung x.geometry scripts volume r.entries.items r.answers.items q ((view_of x).doorbell q)
       ((view_of r.image).doorbell q)
-  pub caused : HavePortCauses x.geometry r.entries.items reached r.answers.items
-      → AreCaused x.geometry scripts volume r.base r.entries.items reached r.answers.items
-  pub uncut : o.cut ≡ None
-      → AreCaused x.geometry scripts volume r.base r.entries.items reached r.answers.items
-  pub counted : (run : IsRunOf x scripts o r) → (HaveCountedAll (ports_of run) → ⊥)
-      → AreCaused x.geometry scripts volume r.base r.entries.items reached r.answers.items
-  pub ports : (run : IsRunOf x scripts o r) → ArePortCauses x r (ports_of run) reached
-  pub backed : (run : IsRunOf x scripts o r) → AreBacked o r (ports_of run)
+  pub caused : AreCaused x.geometry scripts volume r.base r.entries.items reached r.answers.items
+  pub backed : (run : IsRunOf x scripts o r) → AreBacked x.geometry o r (ports_of run)
+  pub charged : (run : IsRunOf x scripts o r) (f : PortFault → Bool) → IsChargedOnce x scripts o r run f
   pub spared : o.fail ≡ None → r.failed ≡ false
   pub ended : o.cut ≡ None → r.failed ≡ false → (n : ℕ) × (r.last ≡ Clean n)
   pub last : IsEndOf o.cut r.last
-  pub stopped : IsStopOf x.geometry r.entries.items reached r.last
+  pub stopped : (run : IsRunOf x scripts o r) → IsStopOf x.geometry o r (ports_of run) reached r.last
   pub clean : (n : ℕ) → r.last ≡ Clean n
       → (n ≡ newest r.base r.entries.items) × IsClean x.geometry (view_of r.image) n
+  pub complete : o.cut ≡ None → o.fail ≡ None → (HaveWanted r.answers.items → ⊥)
+      → IsComplete x scripts volume r
 
 -- so it is of every run whose scripts write bytes
 abbrev pub RunsKeepTheirPromise : Type 0

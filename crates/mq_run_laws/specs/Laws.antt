@@ -13,17 +13,14 @@ use Rattle.mq_file_entries.specs.Group.{file_group}
 use Rattle.mq_journal.specs.Values.{side_values}
 use Rattle.mq_ledger.specs.KnownJournal.{front}
 use Rattle.mq_ledger.specs.State.{port_at}
-use Rattle.mq_history.specs.Answers.{AreAnswered, AreCaused, IsAcknowledged, IsPortCause, IsUndone}
+use Rattle.mq_history.specs.Answers.{AreAnswered, AreCaused, IsAcknowledged}
 use Rattle.mq_history.specs.Cuts.{IsClean, IsCut, IsRung}
 use Rattle.mq_history.specs.Histories.{AreOfBytes}
 use Rattle.mq_history.specs.Legal.{IsLegal, newest}
 use Rattle.mq_calls.specs.declared.answers.CallCause.TheVariants.{Drive}
 use Rattle.mq_calls.specs.declared.answers.Refusal.{Refusal}
-use Rattle.mq_report.specs.Lines.{Line}
 use Rattle.mq_report.specs.declared.line.Told.{Told}
 use Rattle.mq_queue_side.specs.declared.answers.Cause.{Cause}
-use Rattle.mq_queue_side.specs.declared.answers.Cause.TheVariants.{Stopped}
-use Rattle.mq_queue_side.specs.declared.answers.Why.{Why}
 use Rattle.mq_recover.specs.Drives.{AreImages, drive_of, faults_on}
 use Rattle.mq_recover.specs.declared.standing.Standing.{Standing}
 use Rattle.mq_run.specs.Laws.{IsBehindStop}
@@ -38,15 +35,6 @@ use Rattle.mq_tree.specs.Volume.{Volume}
 -- the doorbell of a queue
 abbrev pub bell_of : {P : Type 0} → (P → PortState) → (queue : ℕ) → Ports P → ℕ
 bell_of state q ports = (port_at (drive_of state ports).queues q).doorbell
-
--- what each refusal for a port's cause says of the history holds
-abbrev pub HavePortCauses : Geometry → List Line → (reached : ℕ) → List Told → Type 0
-HavePortCauses g lines reached answers =
-    (t : Told) (r : Refusal) (cause : Cause)
-    → Contains answers t
-    → t.answer ≡ Err r
-    → r.cause ≡ Drive cause
-    → IsPortCause g lines reached cause
 
 module _ {P : Type 0} (G : Ghosts P) (state : P → PortState) (faults : P → List PortFault) where
   -- The lines of a run are a legal list from the base and the volume that lay on the home blocks at the
@@ -121,17 +109,20 @@ module _ {P : Type 0} (G : Ghosts P) (state : P → PortState) (faults : P → L
       → IsRung g scripts v e.entries.items e.answers.items q (bell_of state q ports)
       (bell_of state q e.ports)
 
-  -- Each refusal has its cause, as far as scripts and history say, where what the ports are behind is
-  -- given: the image at the end reaches some number, and what a cause of a port says of the history holds.
+  -- Each refusal has its cause in the scripts and the history, with the number that an image of the ports at
+  -- the end reaches.
   abbrev pub RefusalsAreCaused : Type 0
   RefusalsAreCaused =
       (g : Geometry) (ports : Ports P) (s : Standing) (scripts : List Script) (finish : Bool)
       (e : RunEnd P) (v : Volume) (reached : ℕ)
+      (queues : List PortImage) (root : PortImage)
       → HasRunScripts G state faults g ports s scripts finish e
       → All (λ script. IsShort script.groups) scripts
       → AreOfBytes scripts
       → IsLaid g (map_of g s.blocks.items) v
-      → HavePortCauses g e.entries.items reached e.answers.items
+      → AreImages g (drive_of state e.ports) queues root
+      → IsCut g scripts v s.base e.entries.items e.answers.items
+      (shown journal_reading g queues root) reached
       → AreCaused g scripts v s.base e.entries.items reached e.answers.items
 
   -- Each refusal for a port's cause is backed by a port: what it has gained since the opening is behind the
@@ -146,20 +137,3 @@ module _ {P : Type 0} (G : Ghosts P) (state : P → PortState) (faults : P → L
       → t.answer ≡ Err r
       → r.cause ≡ Drive cause
       → IsBehindStop g cause (faults_on faults ports) (faults_on faults e.ports)
-
-  -- The transaction that stays undone by a refusal is a commit among the lines, of a queue of the drive,
-  -- and above the number that an image of the ports at the end reaches.
-  abbrev pub StoppedTransactionsAreUndone : Type 0
-  StoppedTransactionsAreUndone =
-      (g : Geometry) (ports : Ports P) (s : Standing) (scripts : List Script) (finish : Bool)
-      (e : RunEnd P) (v : Volume) (reached : ℕ)
-      (queues : List PortImage) (root : PortImage) (t : Told) (r : Refusal) (tx : ℕ) (why : Why)
-      → HasRunScripts G state faults g ports s scripts finish e
-      → All (λ script. IsShort script.groups) scripts
-      → AreImages g (drive_of state e.ports) queues root
-      → IsCut g scripts v s.base e.entries.items e.answers.items
-      (shown journal_reading g queues root) reached
-      → Contains e.answers.items t
-      → t.answer ≡ Err r
-      → r.cause ≡ Drive (Stopped tx why)
-      → IsUndone g e.entries.items reached tx

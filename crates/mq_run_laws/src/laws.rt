@@ -1,10 +1,10 @@
 // What holds of a run of scripts.
-ghost use Rattle.mq_run_laws.specs.Causes.{PortCausesHold, RunsAreBacked};
+ghost use Rattle.mq_run_laws.specs.Causes.{RunsAreBacked};
 ghost use Rattle.mq_run_laws.specs.Images.{RunsKeepTheirPromise};
 ghost use Rattle.mq_run_laws.specs.Laws.{AcknowledgedNumbersAreDone, DoorbellsAreRung, EndsAreCuts, FinishedEndsAreClean};
 ghost use Rattle.mq_run_laws.specs.Laws.{RefusalsAreBacked, RefusalsAreCaused, RunsAreAnswered, RunsAreLegal};
-ghost use Rattle.mq_run_laws.specs.Laws.{StoppedTransactionsAreUndone};
 ghost use Rattle.mq_run_laws.specs.Recovering.{EveryInterleavingIsRecovered};
+ghost use Rattle.mq_run_laws.specs.Sums.{RefusalsAreChargedOnce};
 
 use mq_drive::Port;
 
@@ -33,8 +33,8 @@ pub fn a_run_is_rung<P: Port>()
     ensures { DoorbellsAreRung P.Port P.state P.faults }
 {}
 
-/// Each refusal of a run has its cause, as far as scripts and history say: what a cause of a port says of
-/// the history is a premise.
+/// Each refusal of a run has its cause in the scripts and the history: a transaction that failed, or by which a
+/// queue was stopped, is a commit among the lines, and no image of the ports at the end reaches it.
 pub fn a_refusal_is_caused<P: Port>()
     ensures { RefusalsAreCaused P.Port P.state P.faults }
 {}
@@ -45,29 +45,26 @@ pub fn a_refusal_is_backed<P: Port>()
     ensures { RefusalsAreBacked P.Port P.state P.faults }
 {}
 
-/// A transaction by which a queue was stopped for a refused group is a commit among the lines, and no image
-/// of the ports at the end reaches it.
-pub fn a_stopped_transaction_is_undone<P: Port>()
-    ensures { StoppedTransactionsAreUndone P.Port P.state P.faults }
+/// Of each kind of faults, the refusals of a run that charge one to a port, that of the checkpoint at the end among
+/// them, are together at most as many as those that all ports have gained; or a port has as many as a count of 64
+/// bits can say.
+pub fn a_refusal_is_charged_once<P: Port>()
+    ensures { RefusalsAreChargedOnce P.Port P.state P.faults }
 {}
 
-/// A refusal of a run on an image for a drive's cause comes from what was asked of the drive: the power
-/// went off, since it had to go off after a number of events and all of them happened; or the command
-/// failed that had to fail, on the port of the queue whose transaction the refusal names, or a port has as
-/// many faults as a count of 64 bits can say.
+/// A refusal of a run on an image for a drive's cause comes from what was asked of the drive: the power went
+/// off, since it had to go off after a number of events and all of them happened; or the command failed that
+/// had to fail, on the port that was named for it, and the refusal names its transaction or its block. For a
+/// home write that failed, and for a status, this is not said where the power went off and a port has as many
+/// faults as a count of 64 bits can say.
 pub fn a_refusal_on_an_image_is_backed()
     ensures { RunsAreBacked }
 {}
 
-/// What each refusal of a run on an image for a port's cause says of the history holds, if the command that
-/// has to fail is none of the root's and the ports have fewer faults than a count of 64 bits can say.
-pub fn causes_of_ports_hold()
-    ensures { PortCausesHold }
-{}
-
 /// A run on an image reports a legal list of commits and reads, from the volume and the base that recovery
 /// of the old image gives on, and the answers of its lines; and the new image is a cut of this history,
-/// with all that `fsync` has answered. If the report says that it is clean, it is.
+/// with all that `fsync` has answered. If the report says that it is clean, it is. Where neither a cut nor a
+/// failing command is asked for and memory runs out for no group, it is complete.
 pub fn a_run_on_an_image_keeps_its_promise()
     ensures { RunsKeepTheirPromise }
 {}

@@ -1,5 +1,6 @@
 // The files of the system, a pipe, and the output, of which no contract says what they hold.
-use mq_outside::{Files, LoadRefusal, RealFiles, RealSink, SaveRefusal, put_all};
+use crate::listed::ListedFiles;
+use mq_outside::{Files, LoadRefusal, RealFiles, RealSink, SaveRefusal, SureFiles, put_all};
 use std::alloc::AllocError;
 use std::io::Write;
 use std::os::fd::AsRawFd;
@@ -69,4 +70,18 @@ fn the_system_loads_from_a_pipe(rt: HostRuntime) -> Result<(), Fail> {
 fn the_output_takes_a_line(rt: HostRuntime) {
     assert!(rt; put_all(&mut RealSink::new(rt.stdout()), b"a line\n").is_ok());
     assert!(rt; put_all(&mut RealSink::new(io::writer(&rt)), b"another\n").is_ok());
+}
+
+#[test]
+fn the_names_of_loads_are_listed(rt: HostRuntime) {
+    let alloc = rt.alloc();
+    let mut files = ListedFiles::new(alloc, SureFiles::new(alloc));
+    assert!(rt; files.save("saved", b"bytes").is_ok());
+    for name in ["saved", "other", "saved"] {
+        assert!(rt; files.load(alloc, name).is_ok());
+    }
+    let tried = files.tried();
+    assert!(rt; tried.len() == 3);
+    assert!(rt; tried[0].as_str() == "saved" && tried[1].as_str() == "other");
+    assert!(rt; tried[2].as_str() == "saved");
 }

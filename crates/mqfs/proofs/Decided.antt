@@ -1,6 +1,7 @@
 -- What the files hold decides the status of each command.
 use Rattle.std.proofs.Common.{◌≡◌, ◌≢◌, ◌⊎◌, inl, inr, ap, ◌<◌, ◌≤◌, length, ℕ, List, Option, Some, None, Ok, Err, ◌∙◌}
 use Rattle.std.specs.Prelude.{option_map}
+use Rattle.mq_audit.specs.Traces.{IsMisread, IsTrace, Trace}
 use Rattle.mq_blocks.specs.Descriptor.{Descriptor}
 use Rattle.mq_blocks.specs.Geometry.{queues_of}
 use Rattle.mq_blocks.specs.Journal.{AreWhole}
@@ -25,7 +26,7 @@ use Rattle.mq_tree.specs.Trees.{ReadsAs}
 use Rattle.mq_tree.specs.Volume.{Path, Volume}
 use Rattle.mq_tree.specs.declared.request.Fault.{Fault}
 use Rattle.mq_cli.specs.declared.command.RunFlags.{RunFlags}
-use Rattle.mqfs.specs.Decided.{ChainsDecide, FileDecides, ImageDecides, IsRunnable, NumbersDecide, RunDecides, StandingDecides, TreeDecides, VolumeDecides, above_limit, bad_numbers, bad_script, good_numbers, has_chains, has_file, has_no_file, has_standing, has_tree, is_no_image, no_chains, no_drive, no_image, no_standing, no_tree, no_volume, no_volume_there, none_stands, runs_whole, too_many, unreadable}
+use Rattle.mqfs.specs.Decided.{ChainsDecide, FileDecides, ImageDecides, IsRunnable, NumbersDecide, RunDecides, StandingDecides, TraceDecides, TreeDecides, VolumeDecides, above_limit, bad_numbers, bad_script, bad_trace, good_numbers, good_trace, has_chains, has_file, has_no_file, has_standing, has_tree, is_no_image, no_chains, no_drive, no_image, no_standing, no_tree, no_volume, no_volume_there, none_stands, runs_whole, too_many, unreadable}
 use Rattle.mqfs.specs.Says.{failing, run_options}
 
 -- ---- `format`
@@ -72,6 +73,13 @@ module _ (image : List ℕ) (held : Option Held) (result : ℕ)
   file_decided path done none _ (has_file bytes x v content tells read for reads) = done bytes x v content tells read for reads
   file_decided path done none _ (has_no_file bytes x v fault tells read for reads) = none bytes x v fault tells read for reads
   file_decided path done none status (no_volume image) = volume_decided status image
+
+-- ---- `audit`
+
+pub trace_decided : (trace : List ℕ) (held : Option Held) (result : ℕ) → ((bytes : List ℕ) (t : Trace) → Tells held trace (Some bytes) → IsTrace bytes t → IsUnlessFailed 0 result)
+    → ((bytes : List ℕ) (line : ℕ) → Tells held trace (Some bytes) → IsMisread bytes line → IsUnlessFailed 2 result) → (status : ℕ) → TraceDecides trace held status → IsUnlessFailed status result
+trace_decided trace held result done bad _ (good_trace bytes t tells is) = done bytes t tells is
+trace_decided trace held result done bad _ (bad_trace bytes line tells is) = bad bytes line tells is
 
 -- ---- `run`
 

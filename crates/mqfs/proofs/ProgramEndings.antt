@@ -12,9 +12,9 @@ use Rattle.mq_cli.specs.declared.refusal.WordsRefusal.{WordsRefusal}
 use Rattle.mq_cli.specs.declared.refusal.WordsRefusal.TheVariants as refusal
 use Rattle.mq_command_io.specs.Ending.{IsNotLoaded, IsNotSaved, load_failed, load_memory, load_too_long, save_failed, save_memory}
 use Rattle.mqfs.specs.Decided.{Decides, RunsThere}
-use Rattle.mqfs.specs.Program.{AreUnknown, IsDone, IsEndedRun, IsRefusedText, IsSaid, IsStatus, IsToSay, IsTooLong, KeepsNames, TakesFor, no_command, no_memory, of_command, usage_line}
+use Rattle.mqfs.specs.Program.{AreUnknown, IsDone, IsEndedRun, IsMisreadTrace, IsRefusedText, IsSaid, IsStatus, IsToSay, IsTooLong, KeepsNames, TakesFor, no_command, no_memory, of_command, usage_line}
 use Rattle.mqfs.specs.Says.{Says}
-use Rattle.mqfs.proofs.ProgramTold.{BadWords, RunWords, SaysWords, told_words}
+use Rattle.mqfs.proofs.ProgramTold.{RefusedWords, SaysWords, told_words}
 
 -- where the output wants memory, the status is 4 only where it was
 wanting_four : (status result : ℕ) → IsStatus status → result ≡ cond (nat_eq status 4) 4 6 → result ≡ 4 → status ≡ 4
@@ -67,11 +67,12 @@ module _ (words : Words) (files new_files : FilesState) (status : ℕ) (text : L
   ]
 
   -- what was refused, with its line
-  bad_said : new.contents ≡ appended old.contents text → BadWords words files text ⊎ RunWords 2 words files new_files text → IsRefusedText words files old new ⊎ IsEndedRun 2 words files new_files old new
-  bad_said whole (inl t) = inl (t.0, t.1, t.2, t.3, t.4, t.5, t.6, t.7, t.8, whole ∙ ap (appended old.contents) t.9)
-  bad_said whole (inr t) = inr (t.0, t.1, t.2, text, t.3, t.4, whole)
+  bad_said : new.contents ≡ appended old.contents text → RefusedWords words files new_files text → IsRefusedText words files old new ⊎ (IsMisreadTrace words files old new ⊎ IsEndedRun 2 words files new_files old new)
+  bad_said whole (inl t) = inl (t.0, t.1, t.2, t.3, t.4, t.5, t.6, t.7, t.8, t.9, whole ∙ ap (appended old.contents) t.10)
+  bad_said whole (inr (inl t)) = inr (inl (t.0, t.1, t.2, t.3, t.4, t.5, whole ∙ ap (appended old.contents) t.6))
+  bad_said whole (inr (inr t)) = inr (inr (t.0, t.1, t.2, text, t.3, t.4, whole))
 
-  pub refused_told : result ≡ 2 → IsRefusedText words files old new ⊎ IsEndedRun 2 words files new_files old new
+  pub refused_told : result ≡ 2 → IsRefusedText words files old new ⊎ (IsMisreadTrace words files old new ⊎ IsEndedRun 2 words files new_files old new)
   refused_told two = elim said_or [
     | inl e ↦ bad_said e.1 (tells.bad (sym e.0 ∙ two))
     | inr e ↦ elim e [ inl four ↦ absurd (omega (arith, four, two)) | inr six ↦ absurd (omega (arith, six, two)) ]
@@ -132,31 +133,32 @@ module _ (words : Words) (files new_files : FilesState) (status : ℕ) (text : L
 -- ---- `blocks`, done
 
 zero-or : (file : List ℕ) (old new : FilesState) (status : ℕ) (text : List ℕ) → IsNotLoaded file old new status text → status ≡ 0 → ⊥
-zero-or file old new _ _ (load_failed same rose) zero = omega (arith, zero)
-zero-or file old new _ _ (load_too_long same over faults takes) zero = omega (arith, zero)
-zero-or file old new _ _ (load_memory same faults) zero = omega (arith, zero)
+zero-or file old new _ _ (load_failed same rose tried) zero = omega (arith, zero)
+zero-or file old new _ _ (load_too_long same over faults takes tried) zero = omega (arith, zero)
+zero-or file old new _ _ (load_memory same faults tried) zero = omega (arith, zero)
 
 pub zero-or-saved : (name : List ℕ) (old new : FilesState) (status : ℕ) (text : List ℕ) → IsNotSaved name old new status text → status ≡ 0 → ⊥
-zero-or-saved name old new _ _ (save_failed other rose taken) zero = omega (arith, zero)
-zero-or-saved name old new _ _ (save_memory same faults taken) zero = omega (arith, zero)
+zero-or-saved name old new _ _ (save_failed other rose taken tried) zero = omega (arith, zero)
+zero-or-saved name old new _ _ (save_memory same faults taken tried) zero = omega (arith, zero)
 
-module _ (file : List ℕ) (options : BlocksOptions) (save : Option (List ℕ)) (files new_files : FilesState) (old new : SinkState) where
-  done_of : (status : ℕ) (text : List ℕ) → SaysOfBlocks file options save files new_files status text → status ≡ 0 → new.contents ≡ appended old.contents text → IsDone file options save files new_files old new
-  done_of _ _ (printed bytes lines p x mid load is at run saves) zero out = (bytes, lines, p, x, mid, load.holds, load.contents, is, at, run, saves, out)
+module _ (file : List ℕ) (options : BlocksOptions) (save trace : Option (List ℕ)) (files new_files : FilesState) (old new : SinkState) where
+  done_of : (status : ℕ) (text : List ℕ) → SaysOfBlocks file options save trace files new_files status text → status ≡ 0 → new.contents ≡ appended old.contents text → IsDone file options save trace files new_files old new
+  done_of _ _ (printed bytes lines p x mid kept load is at run saves traces) zero out = (bytes, lines, p, x, mid, kept, load.holds, load.contents, is, at, run, saves, traces, out)
   done_of _ _ (refused bytes line cause load refuses) zero out = absurd (omega (arith, zero))
   done_of status text (blocks_says.not_loaded not) zero out = absurd (zero-or file files new_files status text not zero)
   done_of status text (blocks_says.not_saved bytes lines name mid asks load is not) zero out = absurd (zero-or-saved name mid new_files status text not zero)
-  done_of _ _ (blocks_says.wants_memory same faults) zero out = absurd (omega (arith, zero))
+  done_of status text (blocks_says.trace_not_saved bytes lines name q x mid kept asks load is at run saves not) zero out = absurd (zero-or-saved name kept new_files status text not zero)
+  done_of _ _ (blocks_says.wants_memory others load) zero out = absurd (omega (arith, zero))
 
-  done_words : (words : Words) (status : ℕ) (text : List ℕ) → asked_of words ≡ Some (blocks file options save) → IsToSay words files new_files status text → status ≡ 0 → new.contents ≡ appended old.contents text → IsDone file options save files new_files old new
+  done_words : (words : Words) (status : ℕ) (text : List ℕ) → asked_of words ≡ Some (blocks file options save trace) → IsToSay words files new_files status text → status ≡ 0 → new.contents ≡ appended old.contents text → IsDone file options save trace files new_files old new
   done_words words _ _ asks (no_command none same) zero out = absurd (omega (arith, zero))
   done_words words status text asks (of_command a is says) zero out =
-      let same : ◌≡◌ {A = Option Asked} (Some a) (Some (blocks file options save)) = sym is ∙ asks in
-      let one : a ≡ blocks file options save = cc in
+      let same : ◌≡◌ {A = Option Asked} (Some a) (Some (blocks file options save trace)) = sym is ∙ asks in
+      let one : a ≡ blocks file options save trace = cc in
       done_of status text (subst (λ (b : Asked). Says b files new_files status text) one says) zero out
   done_words words _ _ asks (no_memory same) zero out = absurd (omega (arith, zero))
 
-  pub done_told : (words : Words) (status : ℕ) (text : List ℕ) (result : ℕ) → asked_of words ≡ Some (blocks file options save) → IsToSay words files new_files status text → EndsWith status text result old new → result ≡ 0 → IsDone file options save files new_files old new
+  pub done_told : (words : Words) (status : ℕ) (text : List ℕ) (result : ℕ) → asked_of words ≡ Some (blocks file options save trace) → IsToSay words files new_files status text → EndsWith status text result old new → result ≡ 0 → IsDone file options save trace files new_files old new
   done_told words status text result asks say ends zero = elim (said_or words files new_files status text result old new say ends) [
     | inl e ↦ done_words words status text asks say (sym e.0 ∙ zero) e.1
     | inr e ↦ elim e [ inl four ↦ absurd (omega (arith, four, zero)) | inr six ↦ absurd (omega (arith, six, zero)) ]

@@ -21,13 +21,13 @@ abbrev IsRunStatus : ℕ → Type 0
 IsRunStatus s = (s ≡ 0) ⊎ (s ≡ 5)
 
 none-loaded : (name : List ℕ) (old new : FilesState) (status : ℕ) (text : List ℕ) → IsNotLoaded name old new status text → IsRunStatus status → ⊥
-none-loaded name old new _ _ (load_failed same rose) good = elim good [ inl e ↦ omega (arith, e) | inr e ↦ omega (arith, e) ]
-none-loaded name old new _ _ (load_too_long same over faults takes) good = elim good [ inl e ↦ omega (arith, e) | inr e ↦ omega (arith, e) ]
-none-loaded name old new _ _ (load_memory same faults) good = elim good [ inl e ↦ omega (arith, e) | inr e ↦ omega (arith, e) ]
+none-loaded name old new _ _ (load_failed same rose tried) good = elim good [ inl e ↦ omega (arith, e) | inr e ↦ omega (arith, e) ]
+none-loaded name old new _ _ (load_too_long same over faults takes tried) good = elim good [ inl e ↦ omega (arith, e) | inr e ↦ omega (arith, e) ]
+none-loaded name old new _ _ (load_memory same faults tried) good = elim good [ inl e ↦ omega (arith, e) | inr e ↦ omega (arith, e) ]
 
 none-saved : (name : List ℕ) (old new : FilesState) (status : ℕ) (text : List ℕ) → IsNotSaved name old new status text → IsRunStatus status → ⊥
-none-saved name old new _ _ (save_failed other rose taken) good = elim good [ inl e ↦ omega (arith, e) | inr e ↦ omega (arith, e) ]
-none-saved name old new _ _ (save_memory same faults taken) good = elim good [ inl e ↦ omega (arith, e) | inr e ↦ omega (arith, e) ]
+none-saved name old new _ _ (save_failed other rose taken tried) good = elim good [ inl e ↦ omega (arith, e) | inr e ↦ omega (arith, e) ]
+none-saved name old new _ _ (save_memory same faults taken tried) good = elim good [ inl e ↦ omega (arith, e) | inr e ↦ omega (arith, e) ]
 
 none-of-image : (bytes : List ℕ) (status : ℕ) (text : List ℕ) → SaysOfImage SaysNothing bytes status text → IsRunStatus status → ⊥
 none-of-image bytes status text (is_image x read nothing) good = absurd nothing
@@ -36,12 +36,12 @@ none-of-image bytes _ _ (commands.SaysOfImage.no_image e has) good = elim good [
 none-named : (name : List ℕ) (old new : FilesState) (status : ℕ) (text : List ℕ) → SaysOf (SaysOfImage SaysNothing) name old new status text → IsRunStatus status → ⊥
 none-named name old new status text (ending.SaysOf.loaded bytes load of) good = none-of-image bytes status text of good
 none-named name old new status text (ending.SaysOf.not_loaded not) good = none-loaded name old new status text not good
-none-named name old new status text (ending.SaysOf.wanting same faults six line) good = elim good [ inl e ↦ omega (arith, six, e) | inr e ↦ omega (arith, six, e) ]
+none-named name old new status text (ending.SaysOf.wanting bytes load six line) good = elim good [ inl e ↦ omega (arith, six, e) | inr e ↦ omega (arith, six, e) ]
 
 none-script : (name : List ℕ) (old new : FilesState) (status : ℕ) (text : List ℕ) → RefusesScript name old new status text → IsRunStatus status → ⊥
 none-script name old new status text (not_loaded not) good = none-loaded name old new status text not good
 none-script name old new _ _ (refused bytes at load bad) good = elim good [ inl e ↦ omega (arith, e) | inr e ↦ omega (arith, e) ]
-none-script name old new _ _ (wanting same faults) good = elim good [ inl e ↦ omega (arith, e) | inr e ↦ omega (arith, e) ]
+none-script name old new _ _ (wanting bytes load) good = elim good [ inl e ↦ omega (arith, e) | inr e ↦ omega (arith, e) ]
 
 none-scripts : (names : List (List ℕ)) (old new : FilesState) (status : ℕ) (text : List ℕ) → RefusesScripts names old new status text → IsRunStatus status → ⊥
 none-scripts [] old new status text refuses good = refuses

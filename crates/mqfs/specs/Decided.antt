@@ -19,11 +19,12 @@ use Rattle.mq_image_ops.specs.Views.{view_of}
 use Rattle.mq_outside.specs.Outside.{Held, Tells}
 use Rattle.mq_recover.specs.declared.refusal.ImageFault.{ImageFault}
 use Rattle.mq_script.specs.Scripts.{Script}
+use Rattle.mq_audit.specs.Traces.{IsMisread, IsTrace, Trace}
 use Rattle.mq_command_blocks.specs.SaysOfBlocks.{TextDecides}
 use Rattle.mq_tree.specs.Trees.{ReadsAs}
 use Rattle.mq_tree.specs.Volume.{Path, Volume}
 use Rattle.mq_tree.specs.declared.request.Fault.{Fault}
-use Rattle.mq_cli.specs.Asked.{Asked, blocks, cat, check, dump, format, gen, help, ls, recover, run, version}
+use Rattle.mq_cli.specs.Asked.{Asked, audit, blocks, cat, check, dump, format, gen, help, ls, recover, run, version}
 use Rattle.mq_cli.specs.declared.command.RunFlags.{RunFlags}
 use Rattle.mqfs.specs.Says.{numbers}
 
@@ -111,8 +112,15 @@ pub data ChainsDecide (image : List ℕ) (held : Option Held) : ℕ → Type 0 w
       → ChainsDecide image held 0
   no_chains : {status : ℕ} → ImageDecides image held status → ChainsDecide image held status
 
+-- `audit`: the file holds a trace, or bytes of which a line is not in its form
+pub data TraceDecides (trace : List ℕ) (held : Option Held) : ℕ → Type 0 where
+  good_trace : (bytes : List ℕ) (t : Trace) → Tells held trace (Some bytes) → IsTrace bytes t
+      → TraceDecides trace held 0
+  bad_trace : (bytes : List ℕ) (line : ℕ) → Tells held trace (Some bytes) → IsMisread bytes line
+      → TraceDecides trace held 2
+
 abbrev pub Decides : Asked → Option Held → (status : ℕ) → Type 0
-Decides (blocks file options save) held status = TextDecides file held status
+Decides (blocks file options save trace) held status = TextDecides file held status
 Decides (format image queues area meta zone) held status =
     NumbersDecide (numbers queues area meta zone) status
 Decides (run image scripts options) held status = RunDecides image scripts options held status
@@ -122,6 +130,7 @@ Decides (cat image path) held status = FileDecides image path held status
 Decides (gen seed threads groups save) held status = status ≡ 0
 Decides (dump image) held status = ChainsDecide image held status
 Decides (check image) held status = StandingDecides image held status
+Decides (audit trace) held status = TraceDecides trace held status
 Decides (help topic) held status = status ≡ 0
 Decides version held status = status ≡ 0
 

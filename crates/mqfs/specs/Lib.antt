@@ -1,3 +1,4 @@
+pub mod Course
 pub mod Decided
 pub mod Played
 pub mod Program

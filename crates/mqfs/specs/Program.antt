@@ -1,17 +1,19 @@
 -- What the program says to words, and what its status reports.
-use Rattle.std.specs.Prelude.{◌≡◌, ◌⊎◌, ◌≤◌, ℕ, ◌+◌, ◌*◌, List, [], ◌∷◌, length, Option, Some, None, codes, option_and_then}
+use Rattle.std.specs.Prelude.{◌≡◌, ◌⊎◌, ◌≤◌, ℕ, ◌+◌, ◌*◌, false, List, [], ◌∷◌, ◌++◌, length, All, Option, Some, None, option_to_list, codes, bytes_eq}
+use Rattle.mq_audit.specs.Traces.{IsMisread}
+use Rattle.mq_command_audit.specs.Audits.{misread_line}
 use Rattle.mq_command_run.specs.RunsScripts.{Runs}
-use Rattle.mq_command_io.specs.Ending.{TakesOver, memory_line}
+use Rattle.mq_command_io.specs.Ending.{IsLoaded, TakesOver, memory_line}
 use Rattle.mq_image.specs.File.{DriveImage}
-use Rattle.mq_outside.specs.Outside.{FilesState, Holds, HoldsOver, OthersSame, SinkState, appended, load_limit}
+use Rattle.mq_outside.specs.Outside.{FilesState, Held, Holds, HoldsOver, SinkState, appended, load_limit}
 use Rattle.mq_block_text.specs.Refusals.{RefusesText}
 use Rattle.mq_block_text.specs.declared.item.BlockItem.{BlockItem}
 use Rattle.mq_block_text.specs.declared.refusal.BlockTextCause.{BlockTextCause}
 use Rattle.mq_command_blocks.specs.Blocks.{IsBlockText, output_of, refused_line}
-use Rattle.mq_command_blocks.specs.Cuts.{IsPrefixAt}
-use Rattle.mq_command_blocks.specs.Left.{SavesLeft}
+use Rattle.mq_block_trace.specs.Prefixes.{IsPrefixAt}
+use Rattle.mq_command_blocks.specs.Left.{SavesLeft, SavesTrace}
 use Rattle.mq_command_blocks.specs.Picked.{IsRunBy, pick_of}
-use Rattle.mq_cli.specs.Asked.{Asked, Words, asked_of, blocks, cat, check, dump, format, gen, help, ls, recover, run, version}
+use Rattle.mq_cli.specs.Asked.{Asked, Words, asked_of, audit, blocks, cat, check, dump, format, gen, help, ls, recover, run, version}
 use Rattle.mq_cli.specs.declared.command.BlocksOptions.{BlocksOptions}
 use Rattle.mq_cli.specs.declared.command.RunFlags.{RunFlags}
 use Rattle.mqfs.specs.Says.{Says, run_options}
@@ -21,7 +23,7 @@ abbrev pub AreUnknown : Words → Type 0
 AreUnknown words = asked_of words ≡ None
 
 abbrev pub usage_line : List ℕ
-usage_line = codes "usage: mqfs blocks|format|run|recover|ls|cat|gen|dump|check\n"
+usage_line = codes "usage: mqfs blocks|format|run|recover|ls|cat|gen|dump|check|audit\n"
 
 -- What there is to say to the words, and with which status: the usage line, what there is to say of what
 -- they ask, or that memory ran out to read them.
@@ -44,24 +46,34 @@ IsSaid words files new_files old new status =
     × (new.contents ≡ appended old.contents text)
 
 -- The file held a block text. What was said is the output of the lines that stand after the cut, on the image
--- that the pick chose, which is saved where a name for it is given.
-abbrev pub IsDone : (file : List ℕ) → BlocksOptions → (save : Option (List ℕ))
+-- that the pick chose. The image is saved where a name for it is given, and so is the trace of what happened before the
+-- cut.
+abbrev pub IsDone : (file : List ℕ) → BlocksOptions → (save trace : Option (List ℕ))
     → (files new_files : FilesState) → (old new : SinkState) → Type 0
-IsDone file options save files new_files old new =
+IsDone file options save trace files new_files old new =
     (bytes : List ℕ) × (lines : List (List BlockItem)) × (p : ℕ) × (x : DriveImage)
-    × (loaded : FilesState)
+    × (loaded kept : FilesState)
     × Holds files.contents file bytes × (loaded.contents ≡ files.contents) × IsBlockText bytes lines
     × IsPrefixAt lines options.cut p
-    × IsRunBy lines options.cut options.again (pick_of options) p x × SavesLeft save x loaded new_files
+    × IsRunBy lines options.cut options.again (pick_of options) p x × SavesLeft save x loaded kept
+    × SavesTrace trace lines options.cut kept new_files
     × (new.contents ≡ appended old.contents (output_of lines p))
 
 -- The words are those of `blocks`, and the file holds bytes that are refused. The line of that was said.
 abbrev pub IsRefusedText : Words → (files : FilesState) → (old new : SinkState) → Type 0
 IsRefusedText words files old new =
-    (file : List ℕ) × (options : BlocksOptions) × (save : Option (List ℕ)) × (bytes : List ℕ)
+    (file : List ℕ) × (options : BlocksOptions) × (save trace : Option (List ℕ)) × (bytes : List ℕ)
     × (line : ℕ) × (cause : BlockTextCause)
-    × (asked_of words ≡ Some (blocks file options save)) × Holds files.contents file bytes
+    × (asked_of words ≡ Some (blocks file options save trace)) × Holds files.contents file bytes
     × RefusesText bytes line cause × (new.contents ≡ appended old.contents (refused_line line cause))
+
+-- The words are those of `audit`, and the file holds bytes of which a line is not in its form. The line of
+-- the first such was said.
+abbrev pub IsMisreadTrace : Words → (files : FilesState) → (old new : SinkState) → Type 0
+IsMisreadTrace words files old new =
+    (trace bytes : List ℕ) × (line : ℕ)
+    × (asked_of words ≡ Some (audit trace)) × Holds files.contents trace bytes × IsMisread bytes line
+    × (new.contents ≡ appended old.contents (misread_line line))
 
 -- The words are those of `run`, which ended with this status, and its text was said.
 abbrev pub IsEndedRun : (status : ℕ) → Words → (files new_files : FilesState) → (old new : SinkState)
@@ -74,7 +86,7 @@ IsEndedRun status words files new_files old new =
 
 -- the names that are loaded
 abbrev pub loaded_names : Asked → List (List ℕ)
-loaded_names (blocks file options save) = file ∷ []
+loaded_names (blocks file options save trace) = file ∷ []
 loaded_names (format image queues area meta zone) = []
 loaded_names (run image scripts options) = image ∷ scripts
 loaded_names (recover image cut pick) = image ∷ []
@@ -83,6 +95,7 @@ loaded_names (cat image path) = image ∷ []
 loaded_names (gen seed threads groups save) = []
 loaded_names (dump image) = image ∷ []
 loaded_names (check image) = image ∷ []
+loaded_names (audit trace) = trace ∷ []
 loaded_names (help topic) = []
 loaded_names version = []
 
@@ -90,25 +103,32 @@ abbrev pub loaded_by : Option Asked → List (List ℕ)
 loaded_by None = []
 loaded_by (Some a) = loaded_names a
 
--- the name that is saved
-abbrev pub saved_name : Asked → Option (List ℕ)
-saved_name (blocks file options save) = save
-saved_name (format image queues area meta zone) = Some image
-saved_name (run image scripts options) = Some image
-saved_name (recover image cut pick) = Some image
-saved_name (ls image) = None
-saved_name (cat image path) = None
-saved_name (gen seed threads groups save) = save
-saved_name (dump image) = None
-saved_name (check image) = None
-saved_name (help topic) = None
-saved_name version = None
+-- the names that are saved
+abbrev pub saved_names : Asked → List (List ℕ)
+saved_names (blocks file options save trace) = option_to_list save ++ option_to_list trace
+saved_names (format image queues area meta zone) = image ∷ []
+saved_names (run image scripts options) = image ∷ []
+saved_names (recover image cut pick) = image ∷ []
+saved_names (ls image) = []
+saved_names (cat image path) = []
+saved_names (gen seed threads groups save) = option_to_list save
+saved_names (dump image) = []
+saved_names (check image) = []
+saved_names (audit trace) = []
+saved_names (help topic) = []
+saved_names version = []
 
--- one of the names holds more bytes than one load gives
+abbrev pub saved_by : Option Asked → List (List ℕ)
+saved_by None = []
+saved_by (Some a) = saved_names a
+
+-- After the names before it were loaded, one of these names holds more bytes than one load gives, and the
+-- load of this name took more.
 abbrev pub HoldsTooMuch : List (List ℕ) → (old new : FilesState) → Type 0
 HoldsTooMuch [] old new = ⊥
 HoldsTooMuch (name ∷ names) old new =
-    (HoldsOver old.contents name × TakesOver old.taken new.taken) ⊎ HoldsTooMuch names old new
+    (HoldsOver old.contents name × TakesOver old.taken new.taken)
+    ⊎ ((bytes : List ℕ) × (mid : FilesState) × IsLoaded name bytes old mid × HoldsTooMuch names mid new)
 
 abbrev pub IsTooLong : Words → (old new : FilesState) → Type 0
 IsTooLong words old new = HoldsTooMuch (loaded_by (asked_of words)) old new
@@ -121,10 +141,14 @@ TakesUpTo loads old new = (old ≤ new) × (new ≤ old + loads * load_limit)
 abbrev pub TakesFor : Words → (old new : FilesState) → Type 0
 TakesFor words old new = TakesUpTo (length (loaded_by (asked_of words))) old.taken new.taken
 
--- no name changes but the one that is saved
-abbrev pub KeepsOthers : Option (List ℕ) → (old new : FilesState) → Type 0
-KeepsOthers None old new = new.contents ≡ old.contents
-KeepsOthers (Some name) old new = OthersSame old.contents new.contents name
+-- what each name holds that is none of these is as before
+abbrev pub KeepsOthers : (names : List (List ℕ)) → (old new : Option Held) → Type 0
+KeepsOthers names None None = Unit {0}
+KeepsOthers names None (Some new) = ⊥
+KeepsOthers names (Some old) None = ⊥
+KeepsOthers names (Some old) (Some new) =
+    (other : List ℕ) → All (λ name. bytes_eq other name ≡ false) names → new other ≡ old other
 
+-- no name changes but those that are saved
 abbrev pub KeepsNames : Words → (old new : FilesState) → Type 0
-KeepsNames words old new = KeepsOthers (option_and_then saved_name (asked_of words)) old new
+KeepsNames words old new = KeepsOthers (saved_by (asked_of words)) old.contents new.contents

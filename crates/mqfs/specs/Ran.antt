@@ -7,6 +7,7 @@ use Rattle.mq_image.specs.File.{DriveImage, image_bytes}
 use Rattle.mq_image_run.specs.Runs.{IsRunOf}
 use Rattle.mq_image_run.specs.declared.ran.ImageRun.{ImageRun}
 use Rattle.mq_outside.specs.Outside.{FilesState, SinkState, appended}
+use Rattle.mq_run_laws.specs.Complete.{IsComplete}
 use Rattle.mq_run_laws.specs.Images.{KeepsPromise}
 use Rattle.mq_script.specs.Scripts.{Script}
 use Rattle.mq_cli.specs.declared.command.RunFlags.{RunFlags}
@@ -31,3 +32,11 @@ pub record IsRan (image : List ℕ) (names : List (List ℕ)) (options : RunFlag
   pub saved : IsSaved image (image_bytes r.image) all new_files
   pub said : new.contents ≡ appended old.contents (run_text r)
   pub status : result ≡ run_status r
+
+-- The status is 0, the scripts were run so, and the run is complete: each group was answered by `ok`, `large`
+-- or `changes`, each that ends with `fsync` and writes no more than a transaction may was acknowledged, and the
+-- image is clean.
+pub record IsRanWhole (image : List ℕ) (names : List (List ℕ)) (options : RunFlags)
+    (files new_files : FilesState) (old new : SinkState) : Type 0 where
+  pub ran : IsRan image names options 0 files new_files old new
+  pub complete : IsComplete ran.x ran.scripts ran.promise.volume ran.r

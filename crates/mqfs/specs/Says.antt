@@ -1,6 +1,7 @@
 -- What there is to say of what words ask, and with which status: one definition for each command.
 use Rattle.std.specs.Prelude.{◌≡◌, ℕ, List, option_map}
 use Rattle.std.specs.Option.{unwrap_or}
+use Rattle.mq_command_audit.specs.Audits.{Audits}
 use Rattle.mq_command_check.specs.Checks.{Checks}
 use Rattle.mq_command_images.specs.Commands.{Dumps, Formats, Lists, SaysOfImage, ShowsFile}
 use Rattle.mq_command_gen.specs.Generates.{Generates}
@@ -13,7 +14,7 @@ use Rattle.mq_image_run.specs.declared.options.RunOptions.{RunOptions}
 use Rattle.mq_image_ops.specs.declared.ports.Failing.{Failing}
 use Rattle.mq_outside.specs.Outside.{FilesState}
 use Rattle.mq_command_blocks.specs.SaysOfBlocks.{SaysOfBlocks}
-use Rattle.mq_cli.specs.Asked.{Asked, blocks, cat, check, dump, format, gen, help, ls, recover, run, version}
+use Rattle.mq_cli.specs.Asked.{Asked, audit, blocks, cat, check, dump, format, gen, help, ls, recover, run, version}
 use Rattle.mq_cli.specs.Help.{help_text, version_line}
 use Rattle.mq_cli.specs.declared.command.FailingCommand.{FailingCommand}
 use Rattle.mq_cli.specs.declared.command.RunFlags.{RunFlags}
@@ -37,7 +38,8 @@ run_options o = record { cut = o.cut; pick = unwrap_or o.pick 0; fail = option_m
 
 -- what there is to say of what is asked, by what the files show before and after
 abbrev pub Says : Asked → (old new : FilesState) → (status : ℕ) → (text : List ℕ) → Type 0
-Says (blocks file options save) old new status text = SaysOfBlocks file options save old new status text
+Says (blocks file options save trace) old new status text =
+    SaysOfBlocks file options save trace old new status text
 Says (format image queues area meta zone) old new status text =
     Formats (numbers queues area meta zone) image old new status text
 Says (run image scripts options) old new status text =
@@ -50,5 +52,6 @@ Says (gen seed threads groups save) old new status text =
     Generates (asked_workload seed threads groups) save old new status text
 Says (dump image) old new status text = SaysOf (SaysOfImage Dumps) image old new status text
 Says (check image) old new status text = SaysOf (SaysOfImage Checks) image old new status text
+Says (audit trace) old new status text = SaysOf Audits trace old new status text
 Says (help topic) old new status text = SaysOnly (help_text topic) old new status text
 Says version old new status text = SaysOnly version_line old new status text

@@ -7,10 +7,11 @@ ghost use Rattle.mq_run_laws.specs.Recovering.{EveryInterleavingIsRecovered};
 ghost use Rattle.mq_cli.specs.Asked.{Asked, HasScript, HasSmallNumbers, asked, asked_of, blocks, gen, run};
 ghost use Rattle.mq_cli.specs.declared.command.BlocksOptions.{BlocksOptions};
 ghost use Rattle.mq_cli.specs.declared.command.RunFlags.{RunFlags};
-ghost use Rattle.mqfs.specs.Decided.{Decides, RunsThere};
+ghost use Rattle.mqfs.specs.Course.{Course, IsFault, IsOutOfMemory};
+ghost use Rattle.mqfs.specs.Decided.{Decides, IsRunnable, RunsThere};
 ghost use Rattle.mqfs.specs.Played.{IsPlayed};
-ghost use Rattle.mqfs.specs.Program.{AreUnknown, IsDone, IsEndedRun, IsRefusedText, IsSaid, IsStatus, IsToSay, IsTooLong, KeepsNames, TakesFor, usage_line};
-ghost use Rattle.mqfs.specs.Ran.{IsRan};
+ghost use Rattle.mqfs.specs.Program.{AreUnknown, IsDone, IsEndedRun, IsMisreadTrace, IsRefusedText, IsSaid, IsStatus, IsToSay, IsTooLong, KeepsNames, TakesFor, usage_line};
+ghost use Rattle.mqfs.specs.Ran.{IsRan, IsRanWhole};
 ghost use Rattle.mqfs.specs.Says.{Says, asked_workload};
 
 mod help;
@@ -22,6 +23,7 @@ use self::scripts::run_script_files;
 use self::workload::run_workload;
 use mq_calls::Gate;
 use mq_cli::{Command, WordsRefusal, read_command};
+use mq_command_audit::audit;
 use mq_command_blocks::run_blocks;
 use mq_command_check::check;
 use mq_command_images::{Numbers, cat, dump, format, ls, recover};
@@ -33,7 +35,7 @@ use std::sync::Wait;
 use std::thread::Threads;
 
 // The line of the words that are no command.
-const USAGE_LINE: &[u8] = b"usage: mqfs blocks|format|run|recover|ls|cat|gen|dump|check\n";
+const USAGE_LINE: &[u8] = b"usage: mqfs blocks|format|run|recover|ls|cat|gen|dump|check|audit\n";
 
 // Runs a command. Draws of `recover` come from 0 where no pick is given.
 fn run<F: Files, K: Sink, R: Threads + Wait + Sync, G: Gate + Sync>(
@@ -61,7 +63,8 @@ fn run<F: Files, K: Sink, R: Threads + Wait + Sync, G: Gate + Sync>(
             file,
             options,
             save,
-        } => run_blocks(alloc, file, options, save, files, out),
+            trace,
+        } => run_blocks(alloc, file, options, save, trace, files, out),
         Command::Format {
             image,
             queues,
@@ -95,6 +98,7 @@ fn run<F: Files, K: Sink, R: Threads + Wait + Sync, G: Gate + Sync>(
         } => run_workload(rt, alloc, seed, threads, groups, save, files, out, gate),
         Command::Dump { image } => dump(alloc, image, files, out),
         Command::Check { image } => check(alloc, image, files, out),
+        Command::Audit { trace } => audit(alloc, trace, files, out),
         Command::Help(topic) => say_help(topic, out),
         Command::Version => say_version(out),
     }
@@ -131,7 +135,7 @@ fn read_and_run<F: Files, K: Sink, R: Threads + Wait + Sync, G: Gate + Sync>(
 
 /// The program: runs the command of the words, which are those after its name, over files and an output.
 /// The sessions of `run` and `gen` play their scripts on threads, and pass the gate on their way. The
-/// status is 0 for done, 1 for words that are no command, 2 for a block text or a script that is refused or
+/// status is 0 for done, 1 for words that are no command, 2 for a block text, a script or a trace that is refused or
 /// for more scripts than queues, 3 for an image, a geometry or a path that is refused, 4 for a fault of a
 /// file or the output or a file that is too long, 5 where the command of the drive was executed that `run`
 /// had to let fail, and 6 for out of memory.
@@ -166,17 +170,28 @@ pub fn mqfs<F: Files, K: Sink, R: Threads + Wait + Sync, G: Gate + Sync>(
         → asked_of (map string_bytes words.now) ≡ Some a
         → RunsThere a (F.state files.old).contents
         → (result ≡ 5) ⊎ IsUnlessFailed 0 result }
-    // `blocks`: the output is that of the lines that stand, of the text that the file holds.
-    ensures done { (file : List ℕ) (options : BlocksOptions) (save : Option (List ℕ))
-        → asked_of (map string_bytes words.now) ≡ Some (blocks file options save)
+    // `blocks`: the output is that of the lines that stand, of the text that the file holds; an image and a trace are saved
+    // where names for them are given.
+    ensures done { (file : List ℕ) (options : BlocksOptions) (save trace : Option (List ℕ))
+        → asked_of (map string_bytes words.now) ≡ Some (blocks file options save trace)
         → result ≡ 0
-        → IsDone file options save (F.state files.old) (F.state files.new) (K.state out.old) (K.state out.new) }
+        → IsDone file options save trace (F.state files.old) (F.state files.new) (K.state out.old) (K.state out.new) }
     // `run`: at the statuses 0 and 5 the scripts were run, the run keeps its promise, the image that it left is saved, and
     // its report is the output.
     ensures ran { (image : List ℕ) (scripts : List (List ℕ)) (options : RunFlags)
         → asked_of (map string_bytes words.now) ≡ Some (run image scripts options)
         → (result ≡ 0) ⊎ (result ≡ 5)
         → IsRan image scripts options result (F.state files.old) (F.state files.new) (K.state out.old) (K.state out.new) }
+    // `run` where neither a cut nor a failing command is asked for, of scripts that are read, not more than queues, on an
+    // image within the limits on which a volume stands: the status is 0, 4 and 6 aside, and then the run is complete.
+    ensures complete { (image : List ℕ) (scripts : List (List ℕ)) (options : RunFlags)
+        → asked_of (map string_bytes words.now) ≡ Some (run image scripts options)
+        → options.cut ≡ None
+        → options.fail ≡ None
+        → IsRunnable image scripts (F.state files.old).contents
+        → ((result ≡ 0)
+        × IsRanWhole image scripts options (F.state files.old) (F.state files.new) (K.state out.old) (K.state out.new))
+        ⊎ ((result ≡ 4) ⊎ (result ≡ 6)) }
     // `gen`: at the status 0 the workload was played on an empty file system, the image that a cut of the power left is
     // saved where a name is given for it, and the output gives how much the tree then has.
     ensures played { (seed threads groups : ℕ) (save : Option (List ℕ))
@@ -191,12 +206,13 @@ pub fn mqfs<F: Files, K: Sink, R: Threads + Wait + Sync, G: Gate + Sync>(
         × ((K.state out.new).contents ≡ appended (K.state out.old).contents usage_line)
         × (F.state files.new ≡ F.state files.old) }
     ensures usage_where { AreUnknown (map string_bytes words.now) → IsUnlessFailed 1 result }
-    // The words are those of `blocks`, and the file holds bytes that are refused; or they are those of
-    // `run`, and a script is refused, or there are more than queues.
+    // The words are those of `blocks` or `audit`, and the file holds bytes that are refused; or they are
+    // those of `run`, and a script is refused, or there are more than queues.
     ensures refused { result ≡ 2
         → IsRefusedText (map string_bytes words.now) (F.state files.old) (K.state out.old) (K.state out.new)
+        ⊎ (IsMisreadTrace (map string_bytes words.now) (F.state files.old) (K.state out.old) (K.state out.new)
         ⊎ IsEndedRun 2 (map string_bytes words.now) (F.state files.old) (F.state files.new) (K.state out.old)
-        (K.state out.new) }
+        (K.state out.new)) }
     // The words are those of `run`, and the command that was to fail was executed.
     ensures failed { result ≡ 5
         → IsEndedRun 5 (map string_bytes words.now) (F.state files.old) (F.state files.new) (K.state out.old)
@@ -209,8 +225,22 @@ pub fn mqfs<F: Files, K: Sink, R: Threads + Wait + Sync, G: Gate + Sync>(
     ensures fault_where { result ≢ 4
         → ((F.state files.new).faults ≡ (F.state files.old).faults)
         × ((K.state out.new).faults ≡ (K.state out.old).faults) }
+    // What failed, what the names then hold, and what the output is.
+    ensures fault_at { result ≡ 4
+        → IsFault (map string_bytes words.now) (F.state files.old) (F.state files.new) (K.state out.old) (K.state out.new) }
+    // Memory ran out: what the names then hold, and what the output is.
+    ensures memory { result ≡ 6
+        → IsOutOfMemory (map string_bytes words.now) (F.state files.old) (F.state files.new) (K.state out.old)
+        (K.state out.new) }
+    // At every status: which names were loaded and saved, one after another, and where that ended.
+    ensures course { (a : Asked)
+        → asked_of (map string_bytes words.now) ≡ Some a
+        → (status : ℕ)
+        × (text : List ℕ)
+        × Course a (F.state files.old) (F.state files.new) status text
+        × EndsWith status text result (K.state out.old) (K.state out.new) }
     ensures takes { result ≢ 4 → result ≢ 6 → TakesFor (map string_bytes words.now) (F.state files.old) (F.state files.new) }
-    // No name changes but the one that the words save, and none at the statuses 1, 2 and 3.
+    // No name changes but those that the words save, and none at the statuses 1, 2 and 3.
     ensures names { KeepsNames (map string_bytes words.now) (F.state files.old) (F.state files.new) }
     ensures contents { (result ≡ 1) ⊎ ((result ≡ 2) ⊎ (result ≡ 3))
         → (F.state files.new).contents ≡ (F.state files.old).contents }

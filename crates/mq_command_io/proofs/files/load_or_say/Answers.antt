@@ -8,7 +8,7 @@ returns-in-Err-Failed-clause-refused g c =
     let sink = g.K.Sink.state in (
       4,
       fault_line c.args.name.now,
-      load_failed c.load.ensures.names (rw c.in-Err-Failed.field-0-is at c.in-Err-Failed.ensures.cause),
+      load_failed c.load.ensures.names (rw c.in-Err-Failed.field-0-is at c.in-Err-Failed.ensures.cause) (rw c.in-Err-Failed.field-0-is at c.in-Err-Failed.ensures.tries),
       subst (λ (n : List ℕ). EndsWith 4 (named_line (codes "fault load ") n) c.say_named.result (sink c.args.out.now) (sink c.say_named.new.out)) c.as_bytes.ensures.value c.say_named.ensures,
     )
 
@@ -17,10 +17,11 @@ returns-in-Err-TooLong-clause-refused g c =
     let sink = g.K.Sink.state in
     let gives = rw c.in-Err-TooLong.field-0-is at c.in-Err-TooLong.ensures.gives in
     let same = rw c.in-Err-TooLong.field-0-is at c.in-Err-TooLong.ensures.cause in
-    let takes = rw c.in-Err-TooLong.field-0-is at c.in-Err-TooLong.ensures.takes in (
+    let takes = rw c.in-Err-TooLong.field-0-is at c.in-Err-TooLong.ensures.takes in
+    let tries = rw c.in-Err-TooLong.field-0-is at c.in-Err-TooLong.ensures.tries in (
       4,
       too_long_line c.args.name.now,
-      load_too_long c.load.ensures.names gives same takes.1,
+      load_too_long c.load.ensures.names gives same takes.1 tries,
       subst (λ (n : List ℕ). EndsWith 4 (named_line (codes "too long ") n) c.say_named-in-Err-TooLong.result (sink c.args.out.now) (sink c.say_named-in-Err-TooLong.new.out)) c.as_bytes-in-Err-TooLong.ensures.value
           c.say_named-in-Err-TooLong.ensures,
     )
@@ -28,4 +29,5 @@ returns-in-Err-TooLong-clause-refused g c =
 pub returns-in-Err-OutOfMemory-clause-refused : goal.returns-in-Err-OutOfMemory-clause-refused
 returns-in-Err-OutOfMemory-clause-refused g c =
     let same = rw c.in-Err-OutOfMemory.field-0-is at c.in-Err-OutOfMemory.ensures.cause in
-    (6, memory_line, load_memory c.load.ensures.names same, c.say_memory.ensures)
+    let tries = rw c.in-Err-OutOfMemory.field-0-is at c.in-Err-OutOfMemory.ensures.tries in
+    (6, memory_line, load_memory c.load.ensures.names same tries, c.say_memory.ensures)

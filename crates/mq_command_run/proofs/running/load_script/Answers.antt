@@ -24,4 +24,4 @@ pub returns-clause-refused : goal.returns-clause-refused
 returns-clause-refused g c =
     let sink = g.K.Sink.state in
     let load = c.in-Ok.ensures.ok in
-    (6, memory_line, runs.RefusesScript.wanting load.contents load.faults, subst (λ (s : SinkState). EndsWith 6 memory_line c.say_memory.result s (sink c.say_memory.new.out)) c.in-Ok.ensures.silent c.say_memory.ensures)
+    (6, memory_line, runs.RefusesScript.wanting c.in-Ok.bytes.items load, subst (λ (s : SinkState). EndsWith 6 memory_line c.say_memory.result s (sink c.say_memory.new.out)) c.in-Ok.ensures.silent c.say_memory.ensures)

@@ -1,7 +1,12 @@
-use Rattle.std.proofs.Common.{map}
+use Rattle.std.proofs.Common.{ℕ, map, subst}
 use Rattle.std.specs.String.{string_bytes}
+use Rattle.mq_cli.specs.Asked.{run}
+use Rattle.mqfs.specs.Decided.{runs_whole}
+use Rattle.mq_command_io.specs.Ending.{EndsWith}
+use Rattle.mqfs.proofs.Course.{course-told, fault-told, memory-told}
 use Rattle.mqfs.proofs.ProgramEndings.{contents_told, done_told, failed_told, fault_told, names_told, refused_told, said_told, same_told, status_told, takes_told, usage_told, usage-where}
 use Rattle.mqfs.proofs.Played.{played_told}
+use Rattle.mqfs.proofs.Complete.{whole_told}
 use Rattle.mqfs.proofs.Ran.{ran_told}
 use Rattle.mqfs.proofs.program.mqfs.Goals as goal
 
@@ -39,8 +44,8 @@ pub returns-clause-contents : goal.returns-clause-contents
 returns-clause-contents g c = contents_told (map string_bytes c.args.words.now) (g.F.Files.state c.args.files.now) (g.F.Files.state c.read_and_run.new.files) c.read_and_run.ensures.ends.0 c.read_and_run.ensures.ends.1 c.read_and_run.result (g.K.Sink.state c.args.out.now) (g.K.Sink.state c.read_and_run.new.out) c.read_and_run.ensures.ends.2 c.read_and_run.ensures.ends.3
 
 pub returns-clause-done : goal.returns-clause-done
-returns-clause-done g c = λ file options save asks zero.
-    done_told file options save (g.F.Files.state c.args.files.now) (g.F.Files.state c.read_and_run.new.files) (g.K.Sink.state c.args.out.now) (g.K.Sink.state c.read_and_run.new.out) (map string_bytes c.args.words.now) c.read_and_run.ensures.ends.0 c.read_and_run.ensures.ends.1 c.read_and_run.result
+returns-clause-done g c = λ file options save trace asks zero.
+    done_told file options save trace (g.F.Files.state c.args.files.now) (g.F.Files.state c.read_and_run.new.files) (g.K.Sink.state c.args.out.now) (g.K.Sink.state c.read_and_run.new.out) (map string_bytes c.args.words.now) c.read_and_run.ensures.ends.0 c.read_and_run.ensures.ends.1 c.read_and_run.result
     asks c.read_and_run.ensures.ends.2 c.read_and_run.ensures.ends.3 zero
 
 pub returns-clause-ran : goal.returns-clause-ran
@@ -48,7 +53,35 @@ returns-clause-ran g c = λ image scripts options asks good.
     ran_told image scripts options (g.F.Files.state c.args.files.now) (g.F.Files.state c.read_and_run.new.files) (g.K.Sink.state c.args.out.now) (g.K.Sink.state c.read_and_run.new.out) (map string_bytes c.args.words.now) c.read_and_run.ensures.ends.0 c.read_and_run.ensures.ends.1 c.read_and_run.result
     asks c.read_and_run.ensures.ends.2 c.read_and_run.ensures.ends.3 good
 
+pub returns-clause-complete : goal.returns-clause-complete
+returns-clause-complete g c = λ image scripts options asks no_cut none runs.
+    whole_told image scripts options (g.F.Files.state c.args.files.now) (g.F.Files.state c.read_and_run.new.files) (g.K.Sink.state c.args.out.now) (g.K.Sink.state c.read_and_run.new.out) (map string_bytes c.args.words.now) c.read_and_run.ensures.ends.0 c.read_and_run.ensures.ends.1 c.read_and_run.result
+    asks c.read_and_run.ensures.ends.2 c.read_and_run.ensures.ends.3 no_cut none (c.read_and_run.ensures.decided (run image scripts options) 0 asks (runs_whole runs none))
+
 pub returns-clause-played : goal.returns-clause-played
 returns-clause-played g c = λ seed threads groups save asks zero.
     played_told seed threads groups save (g.F.Files.state c.args.files.now) (g.F.Files.state c.read_and_run.new.files) (g.K.Sink.state c.args.out.now) (g.K.Sink.state c.read_and_run.new.out) (map string_bytes c.args.words.now) c.read_and_run.ensures.ends.0 c.read_and_run.ensures.ends.1 c.read_and_run.result
     asks c.read_and_run.ensures.ends.2 c.read_and_run.ensures.ends.3 zero
+
+pub returns-clause-fault_at : goal.returns-clause-fault_at
+returns-clause-fault_at g c = λ four.
+    let old = g.K.Sink.state c.args.out.now in
+    let new = g.K.Sink.state c.read_and_run.new.out in
+    let ends = c.read_and_run.ensures.ends in
+    fault-told (map string_bytes c.args.words.now) (g.F.Files.state c.args.files.now) (g.F.Files.state c.read_and_run.new.files) old new ends.0 ends.1 ends.2 (subst (λ (n : ℕ). EndsWith ends.0 ends.1 n old new) four ends.3)
+
+pub returns-clause-memory : goal.returns-clause-memory
+returns-clause-memory g c = λ six.
+    let old = g.K.Sink.state c.args.out.now in
+    let new = g.K.Sink.state c.read_and_run.new.out in
+    let ends = c.read_and_run.ensures.ends in
+    memory-told (map string_bytes c.args.words.now) (g.F.Files.state c.args.files.now) (g.F.Files.state c.read_and_run.new.files) old new ends.0 ends.1 ends.2 (subst (λ (n : ℕ). EndsWith ends.0 ends.1 n old new) six ends.3)
+
+pub returns-clause-course : goal.returns-clause-course
+returns-clause-course g c = λ a asks.
+    let ends = c.read_and_run.ensures.ends in (
+      ends.0,
+      ends.1,
+      course-told (map string_bytes c.args.words.now) (g.F.Files.state c.args.files.now) (g.F.Files.state c.read_and_run.new.files) (g.K.Sink.state c.args.out.now) (g.K.Sink.state c.read_and_run.new.out) a asks ends.0 ends.1 ends.2,
+      ends.3,
+    )

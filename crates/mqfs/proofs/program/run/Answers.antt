@@ -5,7 +5,7 @@ use Rattle.mq_cli.specs.Asked.{HasSmallNumbers, number_end}
 use Rattle.mq_cli.specs.Help.{help_text, version_line}
 use Rattle.mqfs.specs.Decided.{IsRunnable, RunDecides}
 use Rattle.mqfs.specs.Says.{numbers, run_options, said}
-use Rattle.mqfs.proofs.Decided.{chains_decided, file_decided, numbers_decided, standing_decided, tree_decided}
+use Rattle.mqfs.proofs.Decided.{chains_decided, file_decided, numbers_decided, standing_decided, trace_decided, tree_decided}
 use Rattle.mqfs.proofs.program.run.Goals as goal
 
 pub recover-requires : goal.recover-requires
@@ -39,6 +39,9 @@ returns-in-Dump-clause-ends g c = rw c.in-Dump.is c.dump.ensures.ends
 
 pub returns-in-Check-clause-ends : goal.returns-in-Check-clause-ends
 returns-in-Check-clause-ends g c = rw c.in-Check.is c.check.ensures.ends
+
+pub returns-in-Audit-clause-ends : goal.returns-in-Audit-clause-ends
+returns-in-Audit-clause-ends g c = rw c.in-Audit.is c.audit.ensures.ends
 
 pub returns-in-Help-clause-ends : goal.returns-in-Help-clause-ends
 returns-in-Help-clause-ends g c = rw c.in-Help.is (0, help_text c.in-Help.topic, said refl, c.say_help.ensures)
@@ -92,3 +95,7 @@ returns-in-Dump-clause-decided g c =
 pub returns-in-Check-clause-decided : goal.returns-in-Check-clause-decided
 returns-in-Check-clause-decided g c =
     rw c.in-Check.is (standing_decided c.in-Check.image.now (g.F.Files.state c.args.files.now).contents c.check.result c.check.ensures.refused_where c.check.ensures.unreadable_where c.check.ensures.done_where)
+
+pub returns-in-Audit-clause-decided : goal.returns-in-Audit-clause-decided
+returns-in-Audit-clause-decided g c =
+    rw c.in-Audit.is (trace_decided c.in-Audit.trace.now (g.F.Files.state c.args.files.now).contents c.audit.result c.audit.ensures.done_where c.audit.ensures.refused_where)
