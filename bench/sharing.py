@@ -4,7 +4,7 @@
 
 Each session has GROUPS groups (2,000), the first half of them in its own directory and the other half in the shared one. One run goes
 to its end, and CUTS runs (40) are cut at random events, with a random pick. Of each run the history that it prints is read back and
-carried out by the small file system below: each commit's replies have to be those that are printed. Of each cut a recovery is made, and
+carried out by the small file system of `history.py`: each commit's replies have to be those that are printed. Of each cut a recovery is made, and
 the tree that it leaves has to be the one after a prefix of that history, with every number that an `fsync` was answered.
 """
 import os
@@ -13,58 +13,9 @@ import subprocess
 import sys
 import tempfile
 
+from history import Tree, read_report, text_of
+
 EMPTY = ["format", "2", "1024", "64", "4096"]
-
-
-class Tree:
-    """Directories and files, by path: None is a directory, and bytes are a file."""
-
-    def __init__(self):
-        self.paths = {"/": None}
-
-    def parent_is_there(self, path):
-        head = path.rsplit("/", 1)[0] or "/"
-        return head in self.paths and self.paths[head] is None
-
-    def act(self, request):
-        verb, path, *rest = request.split(" ", 3)
-        if verb in ("mkdir", "create"):
-            if not self.parent_is_there(path):
-                return "refused NotFound"
-            if path in self.paths:
-                return "refused Exists"
-            self.paths[path] = None if verb == "mkdir" else b""
-            return "ok"
-        if verb == "unlink":
-            if path not in self.paths:
-                return "refused NotFound"
-            if self.paths[path] is None:
-                return "refused IsDir"
-            del self.paths[path]
-            return "ok"
-        if verb == "rename":
-            to = rest[0]
-            if path not in self.paths or not self.parent_is_there(to):
-                return "refused NotFound"
-            if to in self.paths:
-                return "refused Exists"
-            self.paths[to] = self.paths.pop(path)
-            return "ok"
-        if verb == "write":
-            if path not in self.paths:
-                return "refused NotFound"
-            at, text = int(rest[0]), rest[1].strip('"').encode()
-            old = self.paths[path].ljust(at, b"\0")
-            self.paths[path] = old[:at] + text + old[at + len(text):]
-            return "ok"
-        raise ValueError(request)
-
-    def listing(self):
-        lines = []
-        for path in sorted(self.paths, key=lambda p: [n.encode() for n in p.split("/") if n]):
-            body = self.paths[path]
-            lines.append(f"d {path}" if body is None else f"f {len(body)} {path}")
-        return lines
 
 
 def groups_of(name, count):
@@ -83,24 +34,6 @@ def groups_of(name, count):
         else:
             groups.append([f"unlink {file}.old", f"unlink {file}"])
     return groups
-
-
-def text_of(groups):
-    return "".join("\n".join(group) + "\nfsync\n" for group in groups)
-
-
-def read_report(text):
-    """The commits and reads in order, each with its replies; the answers; the last line."""
-    entries, answers, lines = [], [], text.splitlines()
-    for line in lines[1:]:
-        words = line.split(" ")
-        if words[0] in ("commit", "at"):
-            entries.append((words[0] == "commit", int(words[1]), int(words[3]), int(words[5]), []))
-        elif line.startswith("  "):
-            entries[-1][4].append(line[2:])
-        elif words[0] == "answer":
-            answers.append((int(words[1]), int(words[2]), words[3:]))
-    return entries, answers, lines[-1]
 
 
 class Run:
