@@ -1,5 +1,5 @@
 -- What a call leaves, from what its steps leave.
-use Rattle.std.proofs.Common.{◌≡◌, ℕ, ◌≤◌, List, ◌∷◌, length, sym, ap, subst, ◌∙◌, arith, Some}
+use Rattle.std.proofs.Common.{◌≡◌, ℕ, ◌<◌, ◌≤◌, List, ◌∷◌, length, sym, ap, subst, ◌∙◌, arith, Some}
 use Rattle.mq_blocks.specs.Drive.{PortState}
 use Rattle.mq_blocks.specs.Geometry.{write_limit}
 use Rattle.mq_blocks.specs.declared.geometry.Geometry.{Geometry}
@@ -18,14 +18,14 @@ use Rattle.mq_queue_side.specs.declared.answers.Cause.TheVariants as cause
 use Rattle.mq_queue_side.specs.declared.root.Root.{Root}
 use Rattle.mq_queue_side.specs.declared.side.QueueSide.{QueueSide}
 use Rattle.mq_turns.specs.Chairs.{holding}
-use Rattle.mq_turns.specs.Lists.{Each}
+use Rattle.mq_turns.specs.Lists.{Each, times}
 use Rattle.mq_turns.specs.Meaning.{HasNumberAt}
 use Rattle.mq_turns.specs.declared.rule.MarkAnswer.TheVariants.{Base, Front}
 use Rattle.mq_turns.specs.declared.rule.Reading.{Reading}
 use Rattle.mq_turns.specs.declared.rule.Report.{Report}
 use Rattle.mq_turns.specs.declared.rule.Charge.{Charge}
 use Rattle.mq_turns.specs.declared.rule.Report.TheVariants.{Off, Sent}
-use Rattle.mq_calls.specs.Acts.{Call, Commits, IsCaused, IsOfCall, IsToBeDrawn, IsTurnedDown, LacksArea, Rests, WasCutAt, before, cut, drained, kept, memory}
+use Rattle.mq_calls.specs.Acts.{Call, Commits, IsOfCall, IsTurnedDown, LacksArea, MeetsRefusal, Rests, WasCutAt, before, cut, memory}
 use Rattle.mq_calls.specs.Calling.{IsEntryFor}
 use Rattle.mq_calls.specs.Committing.{IsObstacle, IsMissed, OnlyReports, ReadsWords, ShowsObstacle, miss_for, reports_for}
 use Rattle.mq_calls.specs.Drawing.{HasDrawn, IsCommitted}
@@ -105,12 +105,8 @@ module _ {P : Type 0} {G : Ghosts P} (state : P → PortState) (faults : P → L
     drew = subst (Each (λ d. HasNumberAt K.opening.base K.log d.0 d.1)) drawn k.drew;
   }
 
-  pub caused-before : (old v : Seat P FileEntry G) (q : ℕ) (c : Cause) → v.opening ≡ old.opening → old.seen ≤ v.seen → v.drawn ≡ old.drawn → IsCaused state faults v q c → IsCaused state faults old q c
-  caused-before old v q c opening seen drawn (kept K s known side is) = kept K s (known-before old v K opening seen drawn known) side is
-  caused-before old v q c opening seen drawn (drained K s after known side drains cause) = drained K s after (known-before old v K opening seen drawn known) side drains cause
-
-  pub to-be-drawn-before : (g : Geometry) (c : Call) (old v : Seat P FileEntry G) → v.opening ≡ old.opening → old.seen ≤ v.seen → v.drawn ≡ old.drawn → IsToBeDrawn state faults g c v → IsToBeDrawn state faults g c old
-  to-be-drawn-before g c old v opening seen drawn b = record { known = b.known; from = known-before old v b.known opening seen drawn b.from; done = b.done; is = b.is }
+  pub meets-before : (g : Geometry) (c : Call) (why : Cause) (old v : Seat P FileEntry G) → v.opening ≡ old.opening → old.seen ≤ v.seen → v.drawn ≡ old.drawn → MeetsRefusal state faults g c v why → MeetsRefusal state faults g c old why
+  meets-before g c why old v opening seen drawn m = record { known = m.known; from = known-before old v m.known opening seen drawn m.from; done = m.done; drawable = m.drawable; caused = m.caused }
 
   -- the missing room shows on the side
   pub obstacle-shown : (g : Geometry) (c : Call) (old : Seat P FileEntry G) (s : QueueSide P FileEntry G) (v : Seat P FileEntry G) (l : Obstacle) → IsObstacle state faults g c old s v l → ShowsObstacle state faults c.session s v l
@@ -130,6 +126,10 @@ module _ {P : Type 0} {G : Ghosts P} (state : P → PortState) (faults : P → L
     side = k.side;
     is = k.is;
     lacks = k.lacks;
+    later = (let l = k.later in let e = ap (λ (x : Reads P G). x.base) holds.reading in omega arith);
+    number = k.number;
+    drew = subst (λ (l : List (ℕ × FileEntry)). 0 < times k.number l) holds.drawn k.drew;
+    above = k.above;
   }
 
   pub missed-for : (g : Geometry) (c : Call) (s : QueueSide P FileEntry G) (old taken v new : Seat P FileEntry G) (l : Obstacle) → OnlyHolds old taken → ReadsWords taken v → IsObstacle state faults g c taken s v l → OnlyReports (reports_for c.session l v.reading.charged) v new → IsMissed state faults g c old new (miss_for l)
@@ -142,8 +142,7 @@ module _ {P : Type 0} {G : Ghosts P} (state : P → PortState) (faults : P → L
       before (record {
         rests = rests-of old taken v new (reported c.session (report_of cause) ∷ v.reading.charged) holds words only;
         charged = only.charged ∙ ap (λ l. reported c.session (report_of cause) ∷ l) (charges-of old taken v holds words);
-        caused = caused-before old v c.session cause (words.opening ∙ holds.opening) (let a = words.seen in let b = holds.seen in omega arith) (words.drawn ∙ holds.drawn) lacks.1;
-        drawable = to-be-drawn-before g c old taken holds.opening (let a = holds.seen in omega arith) holds.drawn lacks.2;
+        meets = meets-before g c cause old taken holds.opening (let a = holds.seen in omega arith) holds.drawn lacks.1;
       })
 
   -- a group whose send was cut

@@ -20,7 +20,7 @@ use Rattle.mq_pages.specs.declared.page.Write.{Write}
 use Rattle.mq_desk_laws.specs.Rule.{geometry_of, map_now}
 use Rattle.mq_tree.specs.declared.request.Reply.{Reply}
 use Rattle.mq_tree.specs.declared.request.Request.{Request}
-use Rattle.mq_turns.specs.Lists.{Each}
+use Rattle.mq_turns.specs.Lists.{Each, times}
 use Rattle.mq_turns.specs.declared.rule.MarkAnswer.TheVariants.{Base, Front}
 use Rattle.mq_turns.specs.declared.rule.Report.{Report}
 use Rattle.mq_turns.specs.declared.rule.Report.TheVariants as report
@@ -35,7 +35,7 @@ use Rattle.mq_calls.specs.Wanted.{IsSameSession}
 use Rattle.mq_calls.specs.declared.answers.CallCause.{CallCause}
 use Rattle.mq_calls.specs.declared.committing.Miss.{Miss}
 use Rattle.mq_calls.specs.declared.committing.Miss.TheVariants as miss
-use Rattle.mq_calls.proofs.Acts.{caused-before, known-before, to-be-drawn-before}
+use Rattle.mq_calls.proofs.Acts.{known-before, meets-before}
 use Rattle.mq_calls.proofs.Sessions.{called-more}
 use Rattle.mq_calls.proofs.RunsFinding.{done-now, shape-is}
 
@@ -221,6 +221,10 @@ module _ {P : Type 0} {G : Ghosts P} (state : P → PortState) (faults : P → L
       side = k.lacks.side;
       is = k.lacks.is;
       lacks = k.lacks.lacks;
+      later = (let l = k.lacks.later in let e = ap (λ (x : Seat P FileEntry G). x.reading.base) same.is in omega arith);
+      number = k.lacks.number;
+      drew = subst (λ (l : List (ℕ × FileEntry)). 0 < times k.lacks.number l) (ap (λ (x : Seat P FileEntry G). x.drawn) same.is) k.lacks.drew;
+      above = k.lacks.above;
     };
   }
 
@@ -230,8 +234,7 @@ module _ {P : Type 0} {G : Ghosts P} (state : P → PortState) (faults : P → L
   turned-same g c v m w why drawn same (before {why = x} k) = before (record {
     rests = rests-same v m w same k.rests;
     charged = k.charged ∙ ap (λ (z : Seat P FileEntry G). reported c.session (report_of x) ∷ z.reading.charged) same.is;
-    caused = caused-before state faults v m c.session x (ap (λ (x : Seat P FileEntry G). x.opening) same.is) same.seen (ap (λ (x : Seat P FileEntry G). x.drawn) same.is) k.caused;
-    drawable = to-be-drawn-before state faults g c v m (ap (λ (x : Seat P FileEntry G). x.opening) same.is) same.seen (ap (λ (x : Seat P FileEntry G). x.drawn) same.is) k.drawable;
+    meets = meets-before state faults g c x v m (ap (λ (z : Seat P FileEntry G). z.opening) same.is) same.seen (ap (λ (z : Seat P FileEntry G). z.drawn) same.is) k.meets;
   })
   turned-same g c v m w why drawn same (cut {at} k) = cut (record {
     replies = k.replies;

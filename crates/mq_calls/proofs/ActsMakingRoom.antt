@@ -1,5 +1,5 @@
 -- A checkpoint that a session makes, between two calls or within one.
-use Rattle.std.proofs.Common.{◌≡◌, ℕ, ◌+◌, ◌<◌, Bool, List, [], length, Option, None, sym, ap, subst, ◌∙◌, arith, inl, inr}
+use Rattle.std.proofs.Common.{◌≡◌, ℕ, ◌+◌, ◌<◌, Bool, List, [], length, Option, sym, ap, subst, ◌∙◌, arith, inl, inr}
 use Rattle.std.specs.Prelude.{Result, Ok, Err, IfOk, IfErr}
 use Rattle.mq_blocks.specs.Drive.{PortState}
 use Rattle.mq_blocks.specs.declared.geometry.Geometry.{Geometry}
@@ -14,18 +14,18 @@ use Rattle.mq_file_entries.specs.declared.entry.FileEntry.{FileEntry}
 use Rattle.mq_journal.specs.Numbers.{Seat}
 use Rattle.mq_pages.specs.Held.{HeldCells}
 use Rattle.mq_tree.specs.declared.request.Reply.{Reply}
-use Rattle.mq_turns.specs.Lists.{Each}
+use Rattle.mq_turns.specs.Lists.{Each, times}
 use Rattle.mq_turns.specs.declared.rule.MarkAnswer.{MarkAnswer}
 use Rattle.mq_turns.specs.declared.rule.Charge.{Charge}
-use Rattle.mq_calls.specs.Acts.{Acts, Begins, Call, GoesOn, HasActed, HasNotWaited, IsAreaFull, IsRefused, IsTurnedDown, WaitsForNone, again, at_once, memory, turned_down}
+use Rattle.mq_calls.specs.Acts.{Acts, Begins, Call, GoesOn, HasActed, HasNotWaited, IsAreaFull, IsRefused, IsTurnedDown, WaitsForNone, again, at_once, turned_down}
 use Rattle.mq_calls.specs.Calling.{HasLeft}
 use Rattle.mq_calls.specs.Committing.{IsMissed}
 use Rattle.mq_calls.specs.Sessions.{HasCalled, IsReady}
 use Rattle.mq_calls.specs.declared.answers.CallCause.{CallCause}
-use Rattle.mq_calls.specs.declared.answers.CallCause.TheVariants.{OutOfMemory}
 use Rattle.mq_calls.specs.declared.answers.Refusal.{Refusal}
 use Rattle.mq_calls.specs.declared.committing.Miss.{Miss}
 use Rattle.mq_calls.specs.declared.committing.Miss.TheVariants as miss
+use Rattle.mq_turns.proofs.Lists.{times_none}
 use Rattle.mq_calls.proofs.ActsComposing.{ready-left}
 
 -- ---- what a result holds
@@ -133,6 +133,13 @@ module _ {P : Type 0} {G : Ghosts P} (state : P → PortState) (faults : P → L
   pub refused-again : (g : Geometry) (c : Call) (why : CallCause) (drawn : Option ℕ) (base : ℕ) (first v m w : Seat P FileEntry G) → IsAreaFull state faults g c first v → Raises state faults file_group base v m → IsTurnedDown state faults g c m w why drawn → IsRefused state faults g c first w why drawn
   refused-again g c why drawn base first v m w full raises turned = turned_down (begins-again g c base first v m full raises) turned
 
-  -- where it did not fit then either
-  pub full-again : (g : Geometry) (c : Call) (base : ℕ) (first v m w : Seat P FileEntry G) → IsAreaFull state faults g c first v → Raises state faults file_group base v m → IsAreaFull state faults g c m w → IsRefused state faults g c first w OutOfMemory None
-  full-again g c base first v m w full raises still = refused-again g c OutOfMemory None base first v m w full raises (memory still.keeps)
+  -- each number that the session drew is then covered by the base, so its plan fits
+  pub fits-then : (g : Geometry) (c : Call) (base : ℕ) (v m w : Seat P FileEntry G) → Raises state faults file_group base v m → IsAreaFull state faults g c m w → ⊥
+  fits-then g c base v m w raises full =
+      let k = full.lacks in
+      let word = raises.word in
+      let later = k.later in
+      let above = k.above in
+      let mine : 0 < times k.number v.drawn = subst (λ (l : List (ℕ × FileEntry)). 0 < times k.number l) raises.drawn k.drew in
+      let none = times_none k.number base v.drawn raises.seen.1 (omega arith) in
+      absurd (omega arith)

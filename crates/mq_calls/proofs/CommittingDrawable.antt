@@ -1,5 +1,5 @@
 -- A group that is prepared on the pages and the side that its session holds may be drawn.
-use Rattle.std.proofs.Common.{◌≡◌, ◌≢◌, ℕ, ◌<◌, ◌≤◌, ◌^◌, Bool, true, List, [], ◌∷◌, ◌++◌, length, map, Option, inl, inr, refl, sym, ap, subst, ◌∙◌, arith, Some}
+use Rattle.std.proofs.Common.{◌≡◌, ◌≢◌, ℕ, ◌+◌, ◌<◌, ◌≤◌, ◌^◌, Bool, true, List, [], ◌∷◌, ◌++◌, length, map, Option, inl, inr, refl, sym, ap, subst, ◌∙◌, arith, Some}
 use Rattle.std.specs.Prelude.{None}
 use Rattle.std.proofs.lemmas.Bool.{eqb-true, false≢true}
 use Rattle.std.specs.List.{Contains}
@@ -41,6 +41,7 @@ use Rattle.mq_desk_laws.proofs.Meaning.{laws}
 use Rattle.mq_queue_side.specs.Commits.{IsPlanOf, written_in}
 use Rattle.mq_queue_side.specs.Stored.{FitIs, IsBounded, rows_of}
 use Rattle.mq_queue_side.specs.declared.answers.Fit.TheVariants.{Area, Yes}
+use Rattle.mq_queue_side.specs.declared.answers.Cause.{Cause}
 use Rattle.mq_queue_side.specs.declared.root.Root.{Root}
 use Rattle.mq_queue_side.specs.declared.side.QueueSide.{QueueSide}
 use Rattle.mq_tree.specs.declared.request.Request.{Request}
@@ -53,7 +54,7 @@ use Rattle.mq_turns.specs.declared.turn.Turn.{Turn}
 use Rattle.mq_turns.specs.declared.turn.Turn.TheVariants.{Page, Root as RootTurn, Side}
 use Rattle.mq_turns.proofs.Lists.{each_without}
 use Rattle.mq_turns.proofs.DeskSeen.{opening_seen}
-use Rattle.mq_calls.specs.Acts.{Call, IsToBeDrawn, LacksArea, planned_at}
+use Rattle.mq_calls.specs.Acts.{Call, IsCaused, LacksArea, MeetsRefusal, planned_at}
 use Rattle.mq_calls.specs.Committing.{HasRead, HoldsCommit, IsObstacle, IsPlacedOn, IsPrepared, HasNoRoom}
 use Rattle.mq_calls.specs.Pages.{HoldsPage, HoldsPages}
 use Rattle.mq_calls.specs.Preparing.{IsEntryReady}
@@ -64,6 +65,7 @@ use Rattle.mq_calls.specs.declared.committing.Obstacle.TheVariants as obstacle
 use Rattle.mq_calls.specs.declared.committing.Ready.{Ready}
 use Rattle.mq_calls.proofs.Acts.{known-before}
 use Rattle.mq_calls.proofs.CommittingInHand.{side-apart}
+use Rattle.mq_calls.proofs.CommittingOwn.{drew-above}
 use Rattle.mq_calls.proofs.RunsFinding.{done-now}
 use Rattle.mq_calls.proofs.PagesHolding.{cells-now, pages-kept-all}
 use Rattle.mq_calls.proofs.PagesLists.{each-cell}
@@ -126,6 +128,7 @@ module _ {P : Type 0} {G : Ghosts P} (state : P → PortState) (faults : P → L
       drew = sees.drew;
       marked = sees.marked;
       reader = sees.reader;
+      own = sees.own;
     }
 
     -- what the group writes rises
@@ -271,25 +274,29 @@ module _ {P : Type 0} {G : Ghosts P} (state : P → PortState) (faults : P → L
       let sees = holds.seen.1 in
       known-before state faults old v holds.seen.0 opening seen drawn (record { opening = sees.opening; ok = sees.ok; seen = sees.seen; drew = sees.drew })
 
-  -- a group that is done on the pages in hand, changes something and is not too large is to be drawn
-  pub to-be-drawn : (o : Start P FileEntry G) (g : Geometry) (c : Call) (done : Done) (cells : Cells) (old v : Seat P FileEntry G) (w : QueueSide P FileEntry G) → v.opening ≡ Some o → geometry_at state faults o ≡ g → v.opening ≡ old.opening → old.seen ≤ v.seen → v.drawn ≡ old.drawn → HoldsCommit state faults o c.session cells w v → IsDoneOnCells g c.session c.requests cells done → length done.writes.items ≤ write_limit g → Changes done.writes.items done.frees.items → IsToBeDrawn state faults g c old
-  to-be-drawn o g c done cells old v w opening shape same seen drawn holds on few change = record {
+  -- a group that is done on the pages in hand, changes something and is not too large meets what the side
+  -- refuses
+  pub meets-refusal : (o : Start P FileEntry G) (g : Geometry) (c : Call) (done : Done) (cells : Cells) (old v : Seat P FileEntry G) (w : QueueSide P FileEntry G) (why : Cause) → v.opening ≡ Some o → geometry_at state faults o ≡ g → v.opening ≡ old.opening → old.seen ≤ v.seen → v.drawn ≡ old.drawn → HoldsCommit state faults o c.session cells w v → IsDoneOnCells g c.session c.requests cells done → length done.writes.items ≤ write_limit g → Changes done.writes.items done.frees.items → ((K : Shared P FileEntry G) → Sees (files state faults) v K → IsCaused state faults K c.session why) → MeetsRefusal state faults g c old why
+  meets-refusal o g c done cells old v w why opening shape same seen drawn holds on few change caused = record {
     known = holds.seen.0;
     from = known-held o c.session cells old v w same seen drawn holds;
     done = done;
-    is = record {
+    drawable = record {
       does = does-now state faults o g c.session cells w v c.requests done opening shape holds on holds.seen.0 holds.seen.1;
       changes = change;
       few = few;
     };
+    caused = caused holds.seen.0 holds.seen.1;
   }
 
-  lacks-area : (o : Start P FileEntry G) (g : Geometry) (c : Call) (done : Done) (plan : Placed) (reads : WordsRead) (cells : Cells) (old v : Seat P FileEntry G) (w : QueueSide P FileEntry G) → v.opening ≡ Some o → geometry_at state faults o ≡ g → w.pmr.geometry ≡ g → HoldsCommit state faults o c.session cells w v → IsDoneOnCells g c.session c.requests cells done → length done.writes.items ≤ write_limit g → Changes done.writes.items done.frees.items → HasRead reads old v → IsPlacedOn g c.session reads cells done.writes.items plan → FitIs (area_of w.pmr.geometry) reads.base (rows_of w.stored.items) (state w.pmr.port) plan Area → LacksArea state faults g c old v
-  lacks-area o g c done plan reads cells old v w opening shape drive holds on few change read placement lacks =
+  lacks-area : (o : Start P FileEntry G) (g : Geometry) (c : Call) (done : Done) (plan : Placed) (reads : WordsRead) (cells : Cells) (old v : Seat P FileEntry G) (w : QueueSide P FileEntry G) → v.opening ≡ Some o → v.session ≡ c.session → geometry_at state faults o ≡ g → w.pmr.geometry ≡ g → length plan.logged + length plan.direct ≤ write_limit g → HoldsCommit state faults o c.session cells w v → IsDoneOnCells g c.session c.requests cells done → length done.writes.items ≤ write_limit g → Changes done.writes.items done.frees.items → HasRead reads old v → IsPlacedOn g c.session reads cells done.writes.items plan → FitIs (area_of w.pmr.geometry) reads.base (rows_of w.stored.items) (state w.pmr.port) plan Area → LacksArea state faults g c old v
+  lacks-area o g c done plan reads cells old v w opening session shape drive most holds on few change read placement lacks =
       let K = holds.seen.0 in
       let sees = holds.seen.1 in
       let front_read = read.front in
       let base_read = read.base in
+      let fit : FitIs (area_of g) reads.base (rows_of w.stored.items) (state w.pmr.port) plan Area = subst (λ (x : Geometry). FitIs (area_of x) reads.base (rows_of w.stored.items) (state w.pmr.port) plan Area) drive lacks in
+      let x = drew-above state faults o g c.session reads.base plan w v K opening session holds.side sees most fit in
       record {
         known = K;
         from = known-held o c.session cells old v w read.words.opening read.words.seen read.words.drawn holds;
@@ -309,10 +316,14 @@ module _ {P : Type 0} {G : Ghosts P} (state : P → PortState) (faults : P → L
         };
         side = w;
         is = held_is_current state faults file_group w o c.session v K opening holds.side sees;
-        lacks = subst (λ (x : Geometry). FitIs (area_of x) reads.base (rows_of w.stored.items) (state w.pmr.port) plan Area) drive lacks;
+        lacks = fit;
+        later = read.later;
+        number = x.number;
+        drew = subst (λ (l : List (ℕ × FileEntry)). 0 < times x.number l) read.words.drawn x.drew;
+        above = x.above;
       }
 
-  pub lacks-room : (o : Start P FileEntry G) (g : Geometry) (c : Call) (done : Done) (plan : Placed) (reads : WordsRead) (cells : Cells) (old v : Seat P FileEntry G) (w : QueueSide P FileEntry G) → v.opening ≡ Some o → geometry_at state faults o ≡ g → w.pmr.geometry ≡ g → HoldsCommit state faults o c.session cells w v → IsDoneOnCells g c.session c.requests cells done → length done.writes.items ≤ write_limit g → Changes done.writes.items done.frees.items → HasRead reads old v → IsPlacedOn g c.session reads cells done.writes.items plan → (l : Obstacle) → HasNoRoom state faults c.session reads.base plan w v l → IsObstacle state faults g c old w v l
-  lacks-room o g c done plan reads cells old v w opening shape drive holds on few change read placement obstacle.Memory lacks = absurd lacks
-  lacks-room o g c done plan reads cells old v w opening shape drive holds on few change read placement obstacle.Area lacks = lacks-area o g c done plan reads cells old v w opening shape drive holds on few change read placement lacks
-  lacks-room o g c done plan reads cells old v w opening shape drive holds on few change read placement (obstacle.Drive cause) lacks = (lacks.0, lacks.1, to-be-drawn o g c done cells old v w opening shape read.words.opening read.words.seen read.words.drawn holds on few change)
+  pub lacks-room : (o : Start P FileEntry G) (g : Geometry) (c : Call) (done : Done) (plan : Placed) (reads : WordsRead) (cells : Cells) (old v : Seat P FileEntry G) (w : QueueSide P FileEntry G) → v.opening ≡ Some o → v.session ≡ c.session → geometry_at state faults o ≡ g → w.pmr.geometry ≡ g → length plan.logged + length plan.direct ≤ write_limit g → HoldsCommit state faults o c.session cells w v → IsDoneOnCells g c.session c.requests cells done → length done.writes.items ≤ write_limit g → Changes done.writes.items done.frees.items → HasRead reads old v → IsPlacedOn g c.session reads cells done.writes.items plan → (l : Obstacle) → HasNoRoom state faults c.session reads.base plan w v l → IsObstacle state faults g c old w v l
+  lacks-room o g c done plan reads cells old v w opening session shape drive most holds on few change read placement obstacle.Memory lacks = absurd lacks
+  lacks-room o g c done plan reads cells old v w opening session shape drive most holds on few change read placement obstacle.Area lacks = lacks-area o g c done plan reads cells old v w opening session shape drive most holds on few change read placement lacks
+  lacks-room o g c done plan reads cells old v w opening session shape drive most holds on few change read placement (obstacle.Drive cause) lacks = (lacks.0, meets-refusal o g c done cells old v w cause opening shape read.words.opening read.words.seen read.words.drawn holds on few change lacks.1)

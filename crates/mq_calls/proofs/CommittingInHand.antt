@@ -83,6 +83,7 @@ module _ {Q R E : Type 0} (μ : Meaning PageCell Q R E) where
       base = subst (λ n. n ≤ K.word) is (omega arith);
       pages = s.reader.pages;
     };
+    own = s.own;
   }
 
 module _ {P : Type 0} {G : Ghosts P} (state : P → PortState) (faults : P → List PortFault) where
@@ -123,6 +124,13 @@ module _ {P : Type 0} {G : Ghosts P} (state : P → PortState) (faults : P → L
       ∙ ap (λ (x : Seat P FileEntry G). Front front ∷ x.reading.answers) s.is
       ∙ ap (λ l. Front front ∷ l) s.kept.3
 
+  front-base : (o : Start P FileEntry G) (front : ℕ) (v w : Seat P FileEntry G) → AfterFront μ o front v w → w.reading.base ≡ v.reading.base
+  front-base o front v w a =
+      let s = a.marks.sweep in
+      ap (λ (x : Seat P FileEntry G). x.reading.base) a.is
+      ∙ ap (λ (x : Seat P FileEntry G). x.reading.base) s.is
+      ∙ s.kept.1
+
   words-then : (a b c : Seat P FileEntry G) → ReadsWords a b → ReadsWords b c → ReadsWords a c
   words-then a b c x y = record {
     parts = y.parts ∙ x.parts;
@@ -149,14 +157,15 @@ module _ {P : Type 0} {G : Ghosts P} (state : P → PortState) (faults : P → L
     charged = ap (λ (x : Seat P FileEntry G). x.reading.charged) is;
   }
 
-  pub has-read : (o : Start P FileEntry G) (reads : WordsRead) (v w u : Seat P FileEntry G) → 0 < length o.sides → AfterFront μ o reads.front v w → u ≡ after_base reads.base w → HasRead reads v u
-  has-read o reads v w u some a is =
+  pub has-read : (o : Start P FileEntry G) (reads : WordsRead) (v w u : Seat P FileEntry G) → 0 < length o.sides → AfterFront μ o reads.front v w → u ≡ after_base reads.base w → w.reading.base ≤ reads.base → HasRead reads v u
+  has-read o reads v w u some a is above =
       let first = words-front o reads.front v w a in
       record {
         words = words-then v w u first (words-base reads.base w u is);
         answers = ap (λ (x : Seat P FileEntry G). x.reading.answers) is ∙ ap (λ l. Base reads.base ∷ l) (front-answered o reads.front v w a);
         front = (let e : u.reading.done ≡ w.reading.done = ap (λ (x : Seat P FileEntry G). x.reading.done) is in let l = front-read o reads.front v w some a in omega arith);
         base = (let e : u.reading.base ≡ reads.base = ap (λ (x : Seat P FileEntry G). x.reading.base) is in omega arith);
+        later = (let e = front-base o reads.front v w a in omega arith);
       }
 
   -- ---- pages and side in hand

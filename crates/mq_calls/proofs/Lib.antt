@@ -10,6 +10,7 @@ pub mod PagesNotDrawn
 pub mod Sessions
 pub mod AskingFirstChange
 pub mod CommittingInHand
+pub mod CommittingOwn
 pub mod CommittingDrawable
 pub mod Acts
 pub mod ActsUnderWay

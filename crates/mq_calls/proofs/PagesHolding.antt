@@ -192,4 +192,5 @@ module _ {Q R E : Type 0} (μ : Meaning PageCell Q R E) where
     drew = s.drew;
     marked = s.marked;
     reader = s.reader;
+    own = s.own;
   }

@@ -143,6 +143,7 @@ module _ {Q R E : Type 0} (μ : Meaning PageCell Q R E) where
     drew = s.drew;
     marked = s.marked;
     reader = s.reader;
+    own = s.own;
   }
 
   none-rises : IsRising []
@@ -166,7 +167,7 @@ module _ {Q R E : Type 0} (μ : Meaning PageCell Q R E) where
       only = λ k. ap (times k) none;
     };
     blocks = λ b. (λ c. c, λ c. c);
-    seen = (K, record { opening = s.opening; ok = s.ok; few = s.few; held = s.held; seen = omega arith; drew = s.drew; marked = s.marked; reader = s.reader });
+    seen = (K, record { opening = s.opening; ok = s.ok; few = s.few; held = s.held; seen = omega arith; drew = s.drew; marked = s.marked; reader = s.reader; own = s.own });
   }))
 
   pub held-none : (o : Opening PageCell Q R) (cells : Cells) (v : ChairView PageCell Q R E) → HoldsOnlyPages μ o cells v → cells ≡ [] → v.held ≡ []

@@ -35,6 +35,7 @@ use Rattle.mq_queue_side.specs.declared.answers.Why.{Why}
 use Rattle.mq_queue_side.specs.declared.side.QueueSide.{QueueSide}
 use Rattle.mq_tree.specs.declared.request.Reply.{Reply}
 use Rattle.mq_tree.specs.declared.request.Request.{Request}
+use Rattle.mq_turns.specs.Lists.{times}
 use Rattle.mq_turns.specs.Meaning.{newest}
 use Rattle.mq_turns.specs.declared.rule.MarkAnswer.TheVariants.{Base, Front}
 use Rattle.mq_turns.specs.declared.rule.Report.{Report}
@@ -154,16 +155,16 @@ module _ {P : Type 0} {G : Ghosts P} where
     pub above : limit < count
 
 module _ {P : Type 0} {G : Ghosts P} (state : P → PortState) (faults : P → List PortFault) where
-  -- By what was known since then, a side that the session held is what lies there; it had kept the failure
-  -- that is named, or its drain came to this refusal.
-  pub data IsCaused (v : Seat P FileEntry G) (q : ℕ) : Cause → Type 0 where
-    kept : {tx : ℕ} {why : Why} (K : Shared P FileEntry G) (s : QueueSide P FileEntry G)
-        → IsKnownFrom state faults file_group v K → IsSide (file_values state faults) file_group q K s
-        → s.kept ≡ Some (tx, why) → IsCaused v q (Stopped tx why)
-    drained : {c : Cause} (K : Shared P FileEntry G) (s after : QueueSide P FileEntry G)
-        → IsKnownFrom state faults file_group v K → IsSide (file_values state faults) file_group q K s
+  -- By what was known then, a side that the session held is what lies there; it had kept the failure that is
+  -- named, or its drain came to this refusal.
+  pub data IsCaused (K : Shared P FileEntry G) (q : ℕ) : Cause → Type 0 where
+    kept : {tx : ℕ} {why : Why} (s : QueueSide P FileEntry G)
+        → IsSide (file_values state faults) file_group q K s
+        → s.kept ≡ Some (tx, why) → IsCaused K q (Stopped tx why)
+    drained : {c : Cause} (s after : QueueSide P FileEntry G)
+        → IsSide (file_values state faults) file_group q K s
         → Drains (side_state state faults s) (Err c) (side_state state faults after)
-        → DrainCause (Err c) (faults s.pmr.port) (faults after.pmr.port) → IsCaused v q c
+        → DrainCause (Err c) (faults s.pmr.port) (faults after.pmr.port) → IsCaused K q c
 
   -- On the map at the newest number of what was known, the group of the call comes to this: it changes
   -- something, and writes no more than a transaction may.
@@ -172,20 +173,21 @@ module _ {P : Type 0} {G : Ghosts P} (state : P → PortState) (faults : P → L
     pub changes : Changes done.writes.items done.frees.items
     pub few : length done.writes.items ≤ write_limit g
 
-  -- So it does by what was known since then.
-  pub record IsToBeDrawn (g : Geometry) (c : Call) (v : Seat P FileEntry G) : Type 0 where
+  -- By what was known at one moment since then, the group of the call was to be drawn, and the side of its
+  -- queue refused so.
+  pub record MeetsRefusal (g : Geometry) (c : Call) (v : Seat P FileEntry G) (why : Cause) : Type 0 where
     pub known : Shared P FileEntry G
     pub from : IsKnownFrom state faults file_group v known
     pub done : Done
-    pub is : IsDrawable g c known done
+    pub drawable : IsDrawable g c known done
+    pub caused : IsCaused known c.session why
 
   -- A port's refusal before the group, which was to be drawn, drew a number. It is charged to the port of
   -- the queue, and nothing else is.
   pub record Refuses (g : Geometry) (c : Call) (why : Cause) (old new : Seat P FileEntry G) : Type 0 where
     pub rests : Rests old new
     pub charged : new.reading.charged ≡ reported c.session (report_of why) ∷ old.reading.charged
-    pub caused : IsCaused old c.session why
-    pub drawable : IsToBeDrawn g c old
+    pub meets : MeetsRefusal g c old why
 
   -- The send of the number, which is above all that the session had seen, was cut on a side, whose port
   -- gained an `Off` by it.
@@ -235,7 +237,8 @@ module _ {P : Type 0} {G : Ghosts P} (state : P → PortState) (faults : P → L
 
   -- The plan of the call's group, by the front and the base that the call was answered, does not fit the
   -- journal area of its queue: by that base there is no room for it beside what the side stores, which the
-  -- session held.
+  -- session held. The base is not below the one that the session knew of, and a number that the session had
+  -- drawn is above it.
   pub record LacksArea (g : Geometry) (c : Call) (old new : Seat P FileEntry G) : Type 0 where
     pub known : Shared P FileEntry G
     pub from : IsKnownFrom state faults file_group old known
@@ -246,6 +249,10 @@ module _ {P : Type 0} {G : Ghosts P} (state : P → PortState) (faults : P → L
     pub side : QueueSide P FileEntry G
     pub is : IsSide (file_values state faults) file_group c.session known side
     pub lacks : FitIs (area_of g) reads.base (rows_of side.stored.items) (state side.pmr.port) plan Area
+    pub later : old.reading.base ≤ reads.base
+    pub number : ℕ
+    pub drew : 0 < times number old.drawn
+    pub above : reads.base < number
 
   -- The plan of the group does not fit the area of its queue. Nothing was drawn, read or reported.
   pub record IsAreaFull (g : Geometry) (c : Call) (old new : Seat P FileEntry G) : Type 0 where

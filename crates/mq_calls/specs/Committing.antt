@@ -14,7 +14,7 @@ use Rattle.mq_file_entries.specs.Plans.{planned_with}
 use Rattle.mq_file_entries.specs.declared.entry.FileEntry.{FileEntry}
 use Rattle.mq_file_entries.specs.declared.entry.Reads.{Reads as WordsRead}
 use Rattle.mq_journal.specs.Draining.{report_of}
-use Rattle.mq_journal.specs.Numbers.{HasPlace, HoldsSide, MayCome, Seat, ShowsReport, Start, reported}
+use Rattle.mq_journal.specs.Numbers.{HasPlace, HoldsSide, MayCome, Seat, Shared, ShowsReport, Start, reported}
 use Rattle.mq_pages.specs.Held.{Cells}
 use Rattle.mq_pages.specs.declared.page.Write.{Write}
 use Rattle.mq_revoke.specs.Guard.{placed_of}
@@ -24,12 +24,12 @@ use Rattle.mq_queue_side.specs.Commits.{IsPlanOf, commit_of_tx}
 use Rattle.mq_queue_side.specs.Stored.{FitIs, rows_of}
 use Rattle.mq_queue_side.specs.declared.answers.Fit.TheVariants.{Area}
 use Rattle.mq_queue_side.specs.declared.side.QueueSide.{QueueSide}
-use Rattle.mq_turns.specs.Desk.{Follows, slot_of}
+use Rattle.mq_turns.specs.Desk.{Follows, Sees, slot_of}
 use Rattle.mq_turns.specs.Lists.{tick, times}
 use Rattle.mq_turns.specs.declared.rule.MarkAnswer.TheVariants.{Base, Front}
 use Rattle.mq_turns.specs.declared.rule.Charge.{Charge}
 use Rattle.mq_turns.specs.declared.turn.Turn.TheVariants.{Side}
-use Rattle.mq_calls.specs.Acts.{Call, IsAreaFull, IsCaused, IsToBeDrawn, IsTurnedDown, LacksArea}
+use Rattle.mq_calls.specs.Acts.{Call, IsAreaFull, IsCaused, IsTurnedDown, LacksArea, MeetsRefusal}
 use Rattle.mq_calls.specs.Calling.{IsEntryFor}
 use Rattle.mq_calls.specs.Pages.{HoldsPages, IsSeen}
 use Rattle.mq_calls.specs.Runs.{files}
@@ -58,12 +58,14 @@ module _ {P : Type 0} {G : Ghosts P} where
     pub done : old.reading.done ≤ new.reading.done
     pub charged : new.reading.charged ≡ old.reading.charged
 
-  -- It has read a front and a base, in this order, and both hold from then on.
+  -- It has read a front and a base, in this order, and both hold from then on. The base is not below the one
+  -- that it knew of.
   pub record HasRead (reads : WordsRead) (old new : Seat P FileEntry G) : Type 0 where
     pub words : ReadsWords old new
     pub answers : new.reading.answers ≡ Base reads.base ∷ Front reads.front ∷ old.reading.answers
     pub front : reads.front ≤ new.reading.done
     pub base : reads.base ≤ new.reading.base
+    pub later : old.reading.base ≤ reads.base
 
   -- Of all but its turns and what it knows of words, this alone has changed: what it reported. What it
   -- knows of numbers has not fallen, and it was answered nothing more.
@@ -113,7 +115,8 @@ module _ {P : Type 0} {G : Ghosts P} (state : P → PortState) (faults : P → L
   HasNoRoom q base plan s v obstacle.Area =
       FitIs (area_of s.pmr.geometry) base (rows_of s.stored.items) (state s.pmr.port) plan Area
   HasNoRoom q base plan s v (obstacle.Drive cause) =
-      ShowsReport state faults file_group q (report_of cause) s v × IsCaused state faults v q cause
+      ShowsReport state faults file_group q (report_of cause) s v
+      × ((K : Shared P FileEntry G) → Sees (files state faults) v K → IsCaused state faults K q cause)
 
   -- Why the commit of the call is not prepared, and what stands behind that: the plan of its group does not
   -- fit the journal area of the queue; or the side shows what will be reported of its port, and had come to
@@ -124,8 +127,7 @@ module _ {P : Type 0} {G : Ghosts P} (state : P → PortState) (faults : P → L
   IsObstacle g c old s v obstacle.Area = LacksArea state faults g c old v
   IsObstacle g c old s v (obstacle.Drive cause) =
       ShowsReport state faults file_group c.session (report_of cause) s v
-      × IsCaused state faults v c.session cause
-      × IsToBeDrawn state faults g c old
+      × MeetsRefusal state faults g c old cause
 
   -- The side shows what will be reported of its port.
   abbrev pub ShowsObstacle : (queue : ℕ) → QueueSide P FileEntry G → Seat P FileEntry G → Obstacle → Type 0

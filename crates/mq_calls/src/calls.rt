@@ -77,8 +77,8 @@ impl<P: Port + Drop> Mqfs<P> {
     }
 
     // Makes room in the journal areas by a checkpoint, and does the group once more: its plan did not fit
-    // the area of its queue. After the checkpoint nothing of this queue is above the base, so the plan fits
-    // then. That is not proved, and where it did not fit again, the answer would be out of memory.
+    // the area of its queue. After the checkpoint no number that the session drew is above the base, so the
+    // plan fits then.
     fn act_again<R: Wait>(
         &self,
         rt: &R,
@@ -116,7 +116,7 @@ impl<P: Port + Drop> Mqfs<P> {
             Ok(_) => match self.attempt(rt, alloc, session, asked) {
                 Ok(answer) => Ok(answer),
                 Err(Miss::Refused(refusal)) => Err(refusal),
-                Err(Miss::AreaFull) => Err(refused(CallCause::OutOfMemory)),
+                Err(Miss::AreaFull) => unreachable!(),
             },
             Err(why) => Err(no_room(why)),
         }

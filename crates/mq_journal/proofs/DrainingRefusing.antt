@@ -142,7 +142,7 @@ module _ {P E : Type 0} {G : Ghosts P} (state : P → PortState) (faults : P →
   -- ---- a side that was taken
 
   pub taken_seen : (slot : ℕ) (K : Shared P E G) (v : Seat P E G) → Sees μ v K → Sees μ (holding slot K v) K
-  taken_seen slot K v s = record { opening = s.opening; ok = s.ok; few = s.few; held = ((s.ok, stays_now _ _ _ K), s.held); seen = s.seen; drew = s.drew; marked = s.marked; reader = s.reader }
+  taken_seen slot K v s = record { opening = s.opening; ok = s.ok; few = s.few; held = ((s.ok, stays_now _ _ _ K), s.held); seen = s.seen; drew = s.drew; marked = s.marked; reader = s.reader; own = s.own }
 
   pub taken_holds : (o : Start P E G) (q : ℕ) (s : QueueSide P E G) (K : Shared P E G) (v : Seat P E G) → IsTurn o (Side q) → Each (λ h. h.0 < slot_of o (Side q)) v.held → IsSide values group q K s → HoldsSide state faults group o q s (holding (slot_of o (Side q)) K v)
   taken_holds o q s K v turn above is = record {

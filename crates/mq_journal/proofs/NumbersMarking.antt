@@ -219,7 +219,7 @@ module _ {P E : Type 0} {G : Ghosts P} (state : P → PortState) (faults : P →
     look_before K sees = sees_look μ K0 K v sees0 (subst (λ z. Sees μ z K) looked sees)
 
     rest_seen : (K : Shared P E G) → Sees μ v K → Numbers.SeesRest state faults group o q v K
-    rest_seen K sees = record { opening = sees.opening; ok = sees.ok; few = sees.few; held = each_without _ (slot_of o (Side q)) v.held sees.held; seen = sees.seen; drew = sees.drew; marked = sees.marked; reader = sees.reader }
+    rest_seen K sees = record { opening = sees.opening; ok = sees.ok; few = sees.few; held = each_without _ (slot_of o (Side q)) v.held sees.held; seen = sees.seen; drew = sees.drew; marked = sees.marked; reader = sees.reader; own = sees.own }
 
     pub busy_marks : (staged_end (state s.pmr.port) ≤ (state s.pmr.port).head → ⊥) → Numbers.Marks state faults group o q s v w
     busy_marks busy = record {
@@ -280,6 +280,7 @@ module _ {P E : Type 0} {G : Ghosts P} (state : P → PortState) (faults : P →
             let stays = side_stays K sees in
             let seen : u.seen ≡ newest K0 = ap (λ (z : Seat P E G). z.seen) cleared ∙ ap (λ (z : Seat P E G). z.seen) looked in
             let drew : u.drawn ≡ v.drawn = ap (λ (z : Seat P E G). z.drawn) cleared ∙ ap (λ (z : Seat P E G). z.drawn) looked in
+            let session : u.session ≡ v.session = ap (λ (z : Seat P E G). z.session) cleared ∙ ap (λ (z : Seat P E G). z.session) looked in
             let before = look_before K1 sees1 in
             record {
               mark = let m = mark_stays μ q L K stays.1 in let n = mark_then in let a = sees.seen in omega arith;
@@ -294,6 +295,7 @@ module _ {P E : Type 0} {G : Ghosts P} (state : P → PortState) (faults : P →
                 drew = subst (Each (λ d. history.HasNumberAt K.opening.base K.log d.0 d.1)) drew sees.drew;
                 marked = sees.marked;
                 reader = reader_grows μ L K v.reading stays.1.grows (reader_grows μ K1 L v.reading (claim_grows K1 (claim_of q low (newest K1))) before.reader);
+                own = λ m e at is. let mine = sees.own m e at (is ∙ sym session) in let same : times m u.drawn ≡ times m v.drawn = ap (times m) drew in omega arith;
               };
             };
         about = about;

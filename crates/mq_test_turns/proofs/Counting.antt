@@ -3,9 +3,9 @@ use Rattle.std.proofs.Common.{◌≡◌, ℕ, zero, suc, ◌+◌, ◌%◌, ◌<�
 use Rattle.std.proofs.lemmas.Bool.{eqb-true, false≢true}
 use Rattle.std.proofs.Math.Nat.{mod-add-mod, mod-mod, le-div_iff_mul-le}
 use Rattle.std.specs.Prelude.{slice_get, slice_index_or}
-use Rattle.mq_turns.specs.Chairs.{Starts, holding}
+use Rattle.mq_turns.specs.Chairs.{Starts, giving, holding}
 use Rattle.mq_turns.specs.Desk.{Follows, fresh, allotment}
-use Rattle.mq_turns.specs.Lists.{Each, tick, times}
+use Rattle.mq_turns.specs.Lists.{Each, tick, times, without}
 use Rattle.mq_turns.specs.Meaning.{Apart, AreLaws, Stays, newest, drawn, claimed}
 use Rattle.mq_turns.specs.Marks.{mark_of, claim_of}
 use Rattle.mq_turns.specs.Words.{same_turn, after_clear}
@@ -67,8 +67,14 @@ module _ {E Q : Type 0} (queue session group : E → ℕ) (state : Q → ℕ) (o
     side_same opening held s = record { known = s.known; turn = s.turn; opening = opening ∙ s.opening; held = held ∙ s.held; counted = s.counted }
 
     module _ (s : OnSide q v x) where
-      mine : 0 < times (slot_of o (Side q)) v.held
+      -- it holds the side, and nothing else
+      pub mine : 0 < times (slot_of o (Side q)) v.held
       mine = let one = hit (slot_of o (Side q)) (slot_of o (Side q)) refl in let e : times (slot_of o (Side q)) v.held ≡ tick (slot_of o (Side q)) (slot_of o (Side q)) + 0 = ap (times (slot_of o (Side q))) s.held in omega arith
+
+      pub side_given : w ≡ giving (slot_of o (Side q)) v → w.held ≡ []
+      side_given is =
+          let k : ℕ = slot_of o (Side q) in
+          ap (λ (u : ChairView ℕ Q ℕ E). u.held) is ∙ (ap (without k) s.held ∙ ap (λ b. cond b [] ((k, s.known) ∷ [])) (eq-eqb k k refl))
 
       stay : (L : Known ℕ Q ℕ E) → Sees μ v L → Stay μ (Side q) s.known L
       stay L sees =

@@ -10,7 +10,7 @@ use Rattle.atomic_table.specs.Table.{step, keeps, takes, gives, carried_after, A
 use Rattle.atomic_table.proofs.Lists.{set_again}
 use Rattle.mq_turns.specs.Meaning.{AreLaws, Meaning, Stays, newest, drawn}
 use Rattle.mq_turns.specs.Lists.{Each, times, without}
-use Rattle.mq_turns.specs.Desk.{slots, IsTurn, slot_of, turn_at, holders, Sat, Now, Stay, Sees, Covers, MayRead, Follows, IsInOrder, Below, allotment, after_draw, after_look, Turns, Numbers, Words, Ruled, Stands, taken, settled, reached, freed, drew_one, looked}
+use Rattle.mq_turns.specs.Desk.{slots, IsTurn, slot_of, turn_at, holders, sits, Sat, Now, Stay, Sees, Covers, MayRead, Follows, IsInOrder, Below, allotment, after_draw, after_look, Turns, Numbers, Words, Sessions, Ruled, Stands, taken, settled, reached, freed, drew_one, looked}
 use Rattle.mq_turns.specs.declared.rule.Opening.{Opening}
 use Rattle.mq_turns.specs.declared.rule.Known.{Known}
 use Rattle.mq_turns.specs.declared.rule.ChairView.{ChairView}
@@ -20,6 +20,7 @@ use Rattle.mq_turns.proofs.Lists.{each_map}
 use Rattle.mq_turns.proofs.Meaning.{stays_drawn, grows_now, grows_drawn}
 use Rattle.mq_turns.proofs.DeskTurns.{Change, Homes, turns_look, turns_change, turns_take, turns_settle, turns_reach, turns_free, away_empty}
 use Rattle.mq_turns.proofs.DeskNumbers.{newest_few, numbers_stay, numbers_look, numbers_draw, room_left, below_newest}
+use Rattle.mq_turns.proofs.DeskSessions.{sessions_stay, sessions_draw}
 use Rattle.mq_turns.proofs.MarksClaims.{marked_drawn}
 use Rattle.mq_turns.proofs.MarksReadings.{words_same, words_stay}
 use Rattle.mq_turns.proofs.DeskOrder.{order_draw, order_look}
@@ -39,10 +40,11 @@ module _ {M P Q R E : Type 0} (μ : Meaning P Q R E) (o : Opening P Q R) (chairs
   at_hand T me c e t = let F : List (ℕ × Option (Item M P Q R E)) → Type 0 = λ cs. T (me.0, cs) in subst F (sym e) t
 
   -- what the rule shows a chair
-  pub sees : (K : Known P Q R E) (s : Now M P Q R E) (id : ℕ) (v : ChairView P Q R E) → K.opening ≡ o → Turns μ (turn_at o) K s → Numbers μ chairs K s → Words μ K s → get_elem? s.views id ≡ some v → 0 < v.parts → Sees μ v K
-  sees K s id v is r n x at live =
+  pub sees : (K : Known P Q R E) (s : Now M P Q R E) (id : ℕ) (v : ChairView P Q R E) → K.opening ≡ o → Turns μ (turn_at o) K s → Numbers μ chairs K s → Words μ K s → Sessions μ K s → get_elem? s.views id ≡ some v → 0 < v.parts → Sees μ v K
+  sees K s id v is r n x y at live =
       let c = r.each_chair id v at in
       let d = n.each_chair id v at in
+      let t = y.each_chair id v at in
       let F : Opening P Q R → Type 0 = λ p. Each (λ h. μ.ok h.1 × Stay μ (turn_at p h.0) h.1 K) v.held in
       record {
         opening = d.opening (λ e. omega arith);
@@ -53,6 +55,7 @@ module _ {M P Q R E : Type 0} (μ : Meaning P Q R E) (o : Opening P Q R) (chairs
         drew = d.drew;
         marked = x.marked;
         reader = (x.each_chair id v at);
+        own = λ m e there is. t.drew m e there (subst (λ i. 0 < sits i v) (sym is) (t.own (λ z. omega arith)));
       }
 
   -- a turn that is free is taken, with its slot; else nothing changes
@@ -79,8 +82,9 @@ module _ {M P Q R E : Type 0} (μ : Meaning P Q R E) (o : Opening P Q R) (chairs
           turns_take μ (turn_at o) K s id k v w r at (omega arith) none_holds live empty refl refl refl,
           numbers_stay μ chairs K s id v w (set s.words k 1) (set s.homes k none) n at (length-set s.homes k none) (get_or-set_other s.words k (length s.homes) 1 0 (λ e. omega arith)) refl refl refl refl refl refl,
           words_same μ K s id v w (set s.words k 1) (set s.homes k none) rk.4 at (length-set s.words k 1) (length-set s.homes k none) (λ j far. get_or-set_other s.words k j 1 0 (λ e. omega arith)) refl refl,
+          sessions_stay μ K K s id v w (set s.words k 1) (set s.homes k none) rk.5 at refl refl refl refl refl refl,
         ),
-        ((λ _. (x.0, K, ap (λ (cs : List (ℕ × Option (Item M P Q R E))). (w, (k, Some x.0) ∷ cs)) bare, sees K s id v rk.1 r n rk.4 at live, subst G (sym rk.1) x.2)), (λ ne. absurd (ne free))),
+        ((λ _. (x.0, K, ap (λ (cs : List (ℕ × Option (Item M P Q R E))). (w, (k, Some x.0) ∷ cs)) bare, sees K s id v rk.1 r n rk.4 rk.5 at live, subst G (sym rk.1) x.2)), (λ ne. absurd (ne free))),
       ))
       (λ taken_already.
       let was : get_or s.words k 0 ≡ 1 = let one = r.single k in let i = t.word in omega arith in
@@ -109,6 +113,7 @@ module _ {M P Q R E : Type 0} (μ : Meaning P Q R E) (o : Opening P Q R) (chairs
           turns_settle μ (turn_at o) K s id k v w rk.2 at (omega arith) hand refl refl refl,
           numbers_stay μ chairs K s id v w s.words homes' rk.3 at (length-set s.homes k (some None)) refl refl refl refl refl refl refl,
           words_same μ K s id v w s.words homes' rk.4 at refl (length-set s.homes k (some None)) (λ j far. refl) refl refl,
+          sessions_stay μ K K s id v w s.words homes' rk.5 at refl refl refl refl refl refl,
         ),
         refl,
       ))
@@ -130,6 +135,7 @@ module _ {M P Q R E : Type 0} (μ : Meaning P Q R E) (o : Opening P Q R) (chairs
           turns_reach μ (turn_at o) K s id k v w rk.2 at (omega arith) hand mine refl refl refl,
           numbers_stay μ chairs K s id v w s.words homes' rk.3 at (length-set s.homes k none) refl refl refl refl refl refl refl,
           words_same μ K s id v w s.words homes' rk.4 at refl (length-set s.homes k none) (λ j far. refl) refl refl,
+          sessions_stay μ K K s id v w s.words homes' rk.5 at refl refl refl refl refl refl,
         ),
         refl,
       ))
@@ -148,9 +154,10 @@ module _ {M P Q R E : Type 0} (μ : Meaning P Q R E) (o : Opening P Q R) (chairs
         (
           K,
           rk.1,
-          turns_free μ (turn_at o) K s id k v w x rk.2 at (omega arith) hand (stands K (sees K s id v rk.1 rk.2 rk.3 rk.4 at live)) refl refl refl,
+          turns_free μ (turn_at o) K s id k v w x rk.2 at (omega arith) hand (stands K (sees K s id v rk.1 rk.2 rk.3 rk.4 rk.5 at live)) refl refl refl,
           numbers_stay μ chairs K s id v w (set s.words k 0) homes' rk.3 at (length-set s.homes k (some (Some x))) (get_or-set_other s.words k (length s.homes) 0 0 (λ e. omega arith)) refl refl refl refl refl refl,
           words_same μ K s id v w (set s.words k 0) homes' rk.4 at (length-set s.words k 0) (length-set s.homes k (some (Some x))) (λ j far. get_or-set_other s.words k j 0 0 (λ e. omega arith)) refl refl,
+          sessions_stay μ K K s id v w (set s.words k 0) homes' rk.5 at refl refl refl refl refl refl,
         ),
         refl,
       ))
@@ -163,7 +170,7 @@ module _ {M P Q R E : Type 0} (μ : Meaning P Q R E) (o : Opening P Q R) (chairs
       let v : ChairView P Q R E = me.0 in
       let r = rk.2 in
       let n = rk.3 in
-      let seen = sees K s id v rk.1 r n rk.4 at live in
+      let seen = sees K s id v rk.1 r n rk.4 rk.5 at live in
       let w : ChairView P Q R E = after_look e K v in
       let now : get_or s.words word 0 ≡ newest K = ap (λ i. get_or s.words i 0) (is ∙ sym len) ∙ n.counter in
       let d = n.each_chair id v at in
@@ -178,6 +185,7 @@ module _ {M P Q R E : Type 0} (μ : Meaning P Q R E) (o : Opening P Q R) (chairs
           turns_look μ (turn_at o) K s id v w s.words r at (same (λ u. u.parts) e K v refl (λ _. refl)) (same (λ u. u.hand) e K v refl (λ _. refl)) (same (λ u. u.held) e K v refl (λ _. refl)) refl (λ _ _. refl),
           numbers_look μ chairs K s id v w s.words n at refl (same (λ u. u.parts) e K v refl (λ _. refl)) (same (λ u. u.opening) e K v refl (λ _. refl)) (same_seen e K v) (same (λ u. u.drawn) e K v refl (λ _. refl)) (reads e K v seen (λ x y. (may x y).0) d.read) order,
           words_same μ K s id v w s.words s.homes rk.4 at refl refl (λ j far. refl) (same (λ u. u.parts) e K v refl (λ _. refl)) (same (λ u. u.reading) e K v refl (λ _. refl)),
+          sessions_stay μ K K s id v w s.words s.homes rk.5 at refl refl (same (λ u. u.parts) e K v refl (λ _. refl)) (same (λ u. u.session) e K v refl (λ _. refl)) (same (λ u. u.sessions) e K v refl (λ _. refl)) (same (λ u. u.drawn) e K v refl (λ _. refl)),
         ),
         ((K, refl, sym now, seen), subst (λ i. Below i v) (sym now) below, order),
       )
@@ -206,7 +214,7 @@ module _ {M P Q R E : Type 0} (μ : Meaning P Q R E) (o : Opening P Q R) (chairs
       let v : ChairView P Q R E = me.0 in
       let w : ChairView P Q R E = after_draw μ e K v in
       let live : 0 < v.parts = some_parts v.parts (length v.drawn) room in
-      let seen = sees K s id v rk.1 r n rk.4 at live in
+      let seen = sees K s id v rk.1 r n rk.4 rk.5 at live in
       let at_end : word ≡ length s.homes = is ∙ sym len in
       let now : get_or s.words word 0 ≡ newest K = ap (λ i. get_or s.words i 0) at_end ∙ n.counter in
       let few = room_left μ chairs K s id v n at room in
@@ -236,6 +244,7 @@ module _ {M P Q R E : Type 0} (μ : Meaning P Q R E) (o : Opening P Q R) (chairs
           turns_change μ (turn_at o) laws touched K L s id v w words' r at change' refl refl refl (length-set s.words word (suc (newest K))) (λ k l. get_or-set_other s.words word k (suc (newest K)) 0 (λ q. omega arith)),
           numbers_draw μ chairs e K s id v w words' n at follows room (let z = get_or-set_same s.words word (suc (newest K)) 0 (omega arith) in ap (λ i. get_or words' i 0) (sym at_end) ∙ z) refl refl refl refl refl refl,
           words_stay μ K L s id v w words' s.homes rk.4 at (length-set s.words word (suc (newest K))) refl (λ j far. get_or-set_other s.words word j (suc (newest K)) 0 (λ q. omega arith)) refl refl (grows_drawn e K) (marked_drawn μ e K rk.4.marked (subst (λ p. μ.queue e < length p.sides) (sym rk.1) side) (may.mark K seen)) refl refl refl,
+          sessions_draw μ e K s id v w words' rk.5 at live follows refl refl refl refl,
         ),
         ((K, refl, sym now, seen), subst (λ i. Below i v) (sym now) (below_newest μ (allotment chairs) K v d), omega arith, λ one. order_draw μ e K v follows (below_newest μ (allotment chairs) K v d).1 d.read (d.order one)),
       )

@@ -10,7 +10,7 @@ use Rattle.atomic_table.specs.Table.{opening}
 use Rattle.mq_turns.specs.Meaning.{AreLaws, Meaning, opened}
 use Rattle.mq_turns.specs.Marks.{Reader}
 use Rattle.mq_turns.specs.Lists.{Each, times, without}
-use Rattle.mq_turns.specs.Desk.{slots, turn_at, fresh, slots_from, laying, first_view, others, seated, Stay, Sees, Holder, Drawer, allotment, Ruled, Stands}
+use Rattle.mq_turns.specs.Desk.{slots, turn_at, fresh, slots_from, laying, first_view, others, seated, Stay, Sees, Holder, Drawer, Sitter, allotment, Ruled, Stands}
 use Rattle.mq_turns.specs.Opened.{AreOpenWords}
 use Rattle.mq_turns.specs.Chairs.{Starts}
 use Rattle.mq_turns.specs.declared.rule.Opening.{Opening}
@@ -24,6 +24,7 @@ use Rattle.mq_turns.proofs.Meaning.{stays_now}
 use Rattle.mq_turns.proofs.DeskOrder.{order_none}
 use Rattle.mq_turns.proofs.DeskTurns.{Homes}
 use Rattle.mq_turns.proofs.MarksClaims.{reader_first}
+use Rattle.mq_turns.proofs.DeskSessions.{from_first, from_next, from_once}
 use Rattle.mq_turns.proofs.DeskSeen.{opening_seen, stands_seen}
 use Rattle.mq_turns.proofs.DeskSlots.{page_at, side_at, root_at}
 
@@ -94,7 +95,8 @@ module _ {P Q R : Type 0} (E : Type 0) (o : Opening P Q R) where
 
   -- a chair is set apart
   pub set_apart : (p i : ℕ) (v : ChairView P Q R E) → v ≡ laying o p i 0 → others v ≡ laying o (p - 1) (suc i) 0
-  set_apart p i v e = ap others e
+  set_apart p i v e =
+      let F : List ℕ → ChairView P Q R E = λ l. record (laying o (p - 1) (suc i) 0) { sessions = l } in ap others e ∙ ap F (from_next i p)
 
   pub is_seated : (p i : ℕ) (v : ChairView P Q R E) → v ≡ laying o p i 0 → seated v ≡ fresh o i
   is_seated p i v e = ap seated e
@@ -177,6 +179,10 @@ module _ {M P Q R E : Type 0} (μ : Meaning P Q R E) (o : Opening P Q R) (chairs
           charges = λ f. refl;
           each_chair = λ j u e. only v j u e (λ y. Reader μ (opened o) y.reading) (reader_first μ (opened o) o.base refl (omega arith));
           idle = λ j u e. only v j u e (λ y. y.parts ≡ 0 → y.reading.charged ≡ []) (λ z. refl);
+        },
+        record {
+          single = λ i. let a = from_once i 0 chairs in omega arith;
+          each_chair = λ j u e. only v j u e (Sitter μ (opened o)) record { own = λ _. from_first 0 chairs some_chair; drew = λ n x at here. absurd at };
         },
       )
     where

@@ -3,7 +3,7 @@ use Rattle.std.proofs.Common.{◌≡◌, ℕ, suc, ◌<◌, ◌≤◌, [], lengt
 use Rattle.atomic_table.specs.Table.{Splits, Joins}
 use Rattle.mq_turns.specs.Meaning.{Meaning, Grows, newest, HasNumberAt}
 use Rattle.mq_turns.specs.Lists.{Each, times, tally}
-use Rattle.mq_turns.specs.Desk.{turn_at, allotment, Now, Below, blank, others, seated, noted, heard, joined, Drawer, Ruled}
+use Rattle.mq_turns.specs.Desk.{turn_at, allotment, Now, Below, sessions_from, sits, blank, others, seated, noted, heard, joined, Drawer, Ruled}
 use Rattle.mq_turns.specs.declared.rule.Opening.{Opening}
 use Rattle.mq_turns.specs.declared.rule.Known.{Known}
 use Rattle.mq_turns.specs.declared.rule.ChairView.{ChairView}
@@ -13,6 +13,7 @@ use Rattle.mq_turns.proofs.DeskTurns.{turns_split, turns_join}
 use Rattle.mq_turns.proofs.MarksClaims.{reader_none, reader_both}
 use Rattle.mq_turns.proofs.MarksReadings.{words_split, words_join, tally_append}
 use Rattle.mq_turns.proofs.DeskNumbers.{numbers_split, numbers_join, drawns_below, last_of_le, last_of_bounds}
+use Rattle.mq_turns.proofs.DeskSessions.{sessions_split, sessions_join, sitter_none, cut_counts, cut_sits, joined_counts, joined_sits}
 
 -- what a chair that heard a note had seen, and what the note was of
 pub told : {P Q R E : Type 0} (n : ℕ) (v f : ChairView P Q R E) → Below n (heard v (noted f)) → Below n f × Below n v
@@ -43,11 +44,12 @@ module _ {M P Q R E : Type 0} (μ : Meaning P Q R E) (o : Opening P Q R) (chairs
         turns_split μ (turn_at o) K s id v v (noted v) rk.2 at refl refl (rk.2.each_chair id v at).idle refl refl,
         numbers_split μ chairs K s id v v (noted v) rk.3 at (omega arith) refl refl (λ d. (d, knows_none μ (allotment chairs) K (noted v) refl (last_of_le v.seen (newest K) v.drawn d.seen (drawns_below μ K v.drawn d.drew)) refl refl)),
         words_split μ K s id v v (noted v) rk.4 at refl (rk.4.idle id v at) refl (λ d. (d, reader_none μ K)),
+        sessions_split μ K s id v v (noted v) rk.5 at (λ i. omega arith) (λ d. (d, sitter_none μ K (noted v) refl refl)),
       )
 
   -- a chair is set apart, while nothing is held or drawn
-  pub seats : (id : ℕ) (v : ChairView P Q R E) → 0 < v.parts → v.held ≡ [] → v.drawn ≡ [] → v.read ≡ [] → v.reading.charged ≡ [] → Splits Rule id v (others v) (seated v)
-  seats id v live none_held none_drawn none_read none_charged s rk at =
+  pub seats : (id : ℕ) (v : ChairView P Q R E) → 0 < v.parts → v.held ≡ [] → v.drawn ≡ [] → v.read ≡ [] → v.reading.charged ≡ [] → v.sessions ≡ sessions_from v.session v.parts → Splits Rule id v (others v) (seated v)
+  seats id v live none_held none_drawn none_read none_charged sessions s rk at =
       let K : Known P Q R E = rk.0 in
       let none_yet : length v.drawn ≡ 0 = ap length none_drawn in (
         K,
@@ -58,6 +60,7 @@ module _ {M P Q R E : Type 0} (μ : Meaning P Q R E) (o : Opening P Q R) (chairs
           record { few = omega arith; opening = λ n. d.opening (λ e. omega arith); seen = d.seen; drew = tt; read = tt; order = λ one. order_none μ v.session },
         )),
         words_split μ K s id v (others v) (seated v) rk.4 at refl (λ z. none_charged) none_charged (λ d. (d, d)),
+        sessions_split μ K s id v (others v) (seated v) rk.5 at (cut_counts v live sessions) (cut_sits μ K v live none_drawn sessions),
       )
 
   -- a chair hears a note
@@ -75,6 +78,7 @@ module _ {M P Q R E : Type 0} (μ : Meaning P Q R E) (o : Opening P Q R) (chairs
               knows_none μ (allotment chairs) K blank refl (omega arith) refl refl,
             )),
         words_join μ K s id v other w (heard v w) blank rk.4 at apart there (λ t. let a : tally t w.reading.charged ≡ 0 = ap (λ u. tally t u.reading.charged) is in omega arith) (rk.4.idle id v at) refl (λ d e. (d, reader_none μ K)),
+        sessions_join μ K s id v other w (heard v w) blank rk.5 at apart there (λ i. let a : sits i w ≡ 0 = ap (sits i) is in omega arith) (λ d e. (record { own = d.own; drew = d.drew }, sitter_none μ K blank refl refl)),
       )
 
   -- two chairs, of which the second holds nothing, are one
@@ -98,4 +102,5 @@ module _ {M P Q R E : Type 0} (μ : Meaning P Q R E) (o : Opening P Q R) (chairs
               knows_none μ (allotment chairs) K blank refl (omega arith) refl refl,
             )),
         words_join μ K s id v other w (joined v w) blank rk.4 at apart there (λ t. let a = tally_append t v.reading.charged w.reading.charged in omega arith) (λ z. absurd (omega arith)) refl (λ d e. (reader_both μ K v.reading w.reading d e, reader_none μ K)),
+        sessions_join μ K s id v other w (joined v w) blank rk.5 at apart there (joined_counts v w) (λ d e. (joined_sits μ K v w live d e, sitter_none μ K blank refl refl)),
       )

@@ -25,18 +25,18 @@ some_same e = cc
 module _ {P Q R E : Type 0} (μ : Meaning P Q R E) where
   -- what is seen with one turn more was to be seen before, and what is known of that turn
   pub sees_before : (k : ℕ) (K1 K : Known P Q R E) (v : ChairView P Q R E) → Sees μ (holding k K1 v) K → Sees μ v K
-  sees_before k K1 K v s = record { opening = s.opening; ok = s.ok; few = s.few; held = s.held.1; seen = s.seen; drew = s.drew; marked = s.marked; reader = s.reader }
+  sees_before k K1 K v s = record { opening = s.opening; ok = s.ok; few = s.few; held = s.held.1; seen = s.seen; drew = s.drew; marked = s.marked; reader = s.reader; own = s.own }
 
   pub sees_taken : (k : ℕ) (K1 K : Known P Q R E) (v : ChairView P Q R E) → Sees μ (holding k K1 v) K → μ.ok K1 × Stay μ (turn_at K.opening k) K1 K
   sees_taken k K1 K v s = s.held.0
 
   -- what a chair has in hand is nothing that it sees
   pub sees_hand : (n : ℕ) (K : Known P Q R E) (v : ChairView P Q R E) → Sees μ (record v { hand = n }) K → Sees μ v K
-  sees_hand n K v s = record { opening = s.opening; ok = s.ok; few = s.few; held = s.held; seen = s.seen; drew = s.drew; marked = s.marked; reader = s.reader }
+  sees_hand n K v s = record { opening = s.opening; ok = s.ok; few = s.few; held = s.held; seen = s.seen; drew = s.drew; marked = s.marked; reader = s.reader; own = s.own }
 
   -- what is seen after a look was to be seen before
   pub sees_look : (K1 K : Known P Q R E) (v : ChairView P Q R E) → Sees μ v K1 → Sees μ (after_look None K1 v) K → Sees μ v K
-  sees_look K1 K v before s = record { opening = s.opening; ok = s.ok; few = s.few; held = s.held; seen = let a = before.seen in let b = s.seen in omega arith; drew = s.drew; marked = s.marked; reader = s.reader }
+  sees_look K1 K v before s = record { opening = s.opening; ok = s.ok; few = s.few; held = s.held; seen = let a = before.seen in let b = s.seen in omega arith; drew = s.drew; marked = s.marked; reader = s.reader; own = s.own }
 
   pub opening_seen : (o : Opening P Q R) (K : Known P Q R E) (v : ChairView P Q R E) → v.opening ≡ Some o → Sees μ v K → K.opening ≡ o
   opening_seen o K v is s = some_same (sym s.opening ∙ is)

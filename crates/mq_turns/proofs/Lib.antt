@@ -6,6 +6,7 @@ pub mod DeskTurns
 pub mod DeskOrder
 pub mod MarksReadings
 pub mod DeskNumbers
+pub mod DeskSessions
 pub mod WordsChanges
 pub mod DeskKeeping
 pub mod DeskSeen

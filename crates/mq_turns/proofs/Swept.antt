@@ -93,6 +93,7 @@ module _ {P Q R E : Type 0} (μ : Meaning P Q R E) where
           base = omega arith;
           pages = subst (Each (λ g. μ.ok g.2 × Grows g.2 K × μ.page g.0 g.2 g.1)) kept.2 r.pages;
         };
+        own = s.own;
       }
 
   -- one mark more is read
@@ -138,6 +139,7 @@ module _ {P Q R E : Type 0} (μ : Meaning P Q R E) where
     drew = s.drew;
     marked = s.marked;
     reader = let r = s.reader in record { low = r.low; swept = r.swept; last = r.last; done = r.done; base = r.base; pages = r.pages };
+    own = s.own;
   }
 
   -- the front is kept

@@ -5,7 +5,7 @@ use mathlib.Core.Option.{some}
 use lib.ListN.{get_elem?}
 use Rattle.mq_turns.specs.Lists.{times}
 use Rattle.mq_turns.specs.Meaning.{AreLaws, Meaning}
-use Rattle.mq_turns.specs.Desk.{slots, IsTurn, slot_of, turn_at, refreshed, Now, Stay, Turns, Numbers, Words, Ruled}
+use Rattle.mq_turns.specs.Desk.{slots, IsTurn, slot_of, turn_at, refreshed, Now, Stay, Turns, Numbers, Words, Sessions, Ruled}
 use Rattle.mq_turns.specs.Words.{same_turn}
 use Rattle.mq_turns.specs.declared.rule.Opening.{Opening}
 use Rattle.mq_turns.specs.declared.rule.Known.{Known}
@@ -13,6 +13,7 @@ use Rattle.mq_turns.specs.declared.rule.ChairView.{ChairView}
 use Rattle.mq_turns.specs.declared.turn.Turn.{Turn}
 use Rattle.mq_turns.specs.declared.turn.Turn.TheVariants.{Page, Side, Root}
 use Rattle.mq_turns.proofs.DeskNumbers.{numbers_change}
+use Rattle.mq_turns.proofs.DeskSessions.{sessions_stay}
 use Rattle.mq_turns.proofs.DeskSlots.{turn_of_slot, slot_of_turn}
 use Rattle.mq_turns.proofs.DeskTurns.{Change, turns_change}
 use Rattle.mq_turns.proofs.MarksReadings.{Told, words_step}
@@ -59,12 +60,12 @@ module _ {P Q R E : Type 0} (μ : Meaning P Q R E) (o : Opening P Q R) where
 module _ {M P Q R E : Type 0} (μ : Meaning P Q R E) (o : Opening P Q R) (chairs : ℕ) where
   -- a step on a word that is no turn's and not the counter, by a chair that holds what it is about: the
   -- rule holds by what is known then
-  pub changes : AreLaws μ → (about : Turn → Bool) (K L : Known P Q R E) (s : Now M P Q R E) (id : ℕ) (v w : ChairView P Q R E) (words' : List ℕ) → K.opening ≡ o → Turns μ (turn_at o) K s → Numbers μ chairs K s → Words μ K s → get_elem? s.views id ≡ some v
+  pub changes : AreLaws μ → (about : Turn → Bool) (K L : Known P Q R E) (s : Now M P Q R E) (id : ℕ) (v w : ChairView P Q R E) (words' : List ℕ) → K.opening ≡ o → Turns μ (turn_at o) K s → Numbers μ chairs K s → Words μ K s → Sessions μ K s → get_elem? s.views id ≡ some v
       → length s.homes ≡ slots o → μ.ok L → ((t : Turn) → about t ≡ false → Stay μ t K L) → HoldsAll μ K.opening about v → L.log ≡ K.log
       → length words' ≡ length s.words → ((k : ℕ) → k ≤ length s.homes → get_or words' k 0 ≡ get_or s.words k 0) → Told μ K L s v w words'
-      → w.parts ≡ v.parts → w.opening ≡ v.opening → w.session ≡ v.session → w.hand ≡ v.hand → w.seen ≡ v.seen → w.drawn ≡ v.drawn → w.read ≡ v.read → w.held ≡ refreshed (slots_about μ L.opening about) L v.held
+      → w.parts ≡ v.parts → w.opening ≡ v.opening → w.session ≡ v.session → w.sessions ≡ v.sessions → w.hand ≡ v.hand → w.seen ≡ v.seen → w.drawn ≡ v.drawn → w.read ≡ v.read → w.held ≡ refreshed (slots_about μ L.opening about) L v.held
       → Ruled μ o chairs record { words = words'; homes = s.homes; views = set s.views id w }
-  changes laws about K L s id v w words' is r n x at deep ok stays holds same wide word told parts opening session hand seen drew read held =
+  changes laws about K L s id v w words' is r n x y at deep ok stays holds same wide word told parts opening session sessions hand seen drew read held =
       let g = told.grows in
       let touched : ℕ → Bool = slots_about μ L.opening about in
       let turns : Turns μ (turn_at K.opening) K s = subst (λ p. Turns μ (turn_at p) K s) (sym is) r in
@@ -76,4 +77,5 @@ module _ {M P Q R E : Type 0} (μ : Meaning P Q R E) (o : Opening P Q R) (chairs
         subst (λ p. Turns μ (turn_at p) L s') is (turns_change μ (turn_at K.opening) laws touched K L s id v w words' turns at change parts hand held wide (λ k lt. word k (omega arith))),
         numbers_change μ chairs K L s id v w words' n at g same (word (length s.homes) (omega arith)) parts opening session seen drew read,
         words_step μ K L s id v w words' s.homes x at wide refl told,
+        sessions_stay μ K L s id v w words' s.homes y at g.opening same parts session sessions drew,
       )

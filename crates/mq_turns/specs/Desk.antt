@@ -48,6 +48,16 @@ abbrev pub last_of : {E : Type 0} → ℕ → List (ℕ × E) → ℕ
 last_of n [] = n
 last_of n (d ∷ ds) = max d.0 (last_of n ds)
 
+-- the sessions from i on, n of them
+abbrev pub sessions_from : ℕ → ℕ → List ℕ
+sessions_from i zero = []
+sessions_from i (suc n) = i ∷ sessions_from (suc i) n
+
+-- all but the first
+abbrev pub behind : List ℕ → List ℕ
+behind [] = []
+behind (i ∷ is) = is
+
 -- how many numbers one of `chairs` chairs may draw
 abbrev pub allotment : ℕ → ℕ
 allotment chairs = 2 ^ 62 / chairs
@@ -62,6 +72,10 @@ module _ {P Q R E : Type 0} where
 
   abbrev pub hands : ℕ → List (ChairView P Q R E) → ℕ
   hands k vs = total (hand_at k) vs
+
+  -- how often the session is one of those that the view stands for
+  abbrev pub sits : ℕ → ChairView P Q R E → ℕ
+  sits i v = total (λ j. tick j i) v.sessions
 
   -- the chair had seen and drawn nothing above n
   abbrev pub Below : ℕ → ChairView P Q R E → Type 0
@@ -80,13 +94,20 @@ module _ {P Q R E : Type 0} where
         drawn = [];
         read = [];
         reading = unread;
+        sessions = [];
       }
 
   -- a new chair
   abbrev pub fresh : Opening P Q R → ℕ → ChairView P Q R E
   fresh o i =
-      record blank
-      { parts = 1; opening = Some o; session = i; seen = o.base; reading = read_first o.base }
+      record blank {
+        parts = 1;
+        opening = Some o;
+        session = i;
+        seen = o.base;
+        reading = read_first o.base;
+        sessions = i ∷ [];
+      }
 
   -- the slots from j on, n of them, all held since the desk was opened
   abbrev pub slots_from : Opening P Q R → ℕ → ℕ → List (ℕ × Known P Q R E)
@@ -103,6 +124,7 @@ module _ {P Q R E : Type 0} where
         seen = o.base;
         held = slots_from o 0 n;
         reading = read_first o.base;
+        sessions = sessions_from i parts;
       }
 
   -- at first one view holds all turns
@@ -111,12 +133,18 @@ module _ {P Q R E : Type 0} where
 
   -- one chair is set apart from the others
   abbrev pub others : ChairView P Q R E → ChairView P Q R E
-  others v = record v { parts = v.parts - 1; session = suc v.session }
+  others v = record v { parts = v.parts - 1; session = suc v.session; sessions = behind v.sessions }
 
   abbrev pub seated : ChairView P Q R E → ChairView P Q R E
   seated v =
-      record blank
-      { parts = 1; opening = v.opening; session = v.session; seen = v.seen; reading = v.reading }
+      record blank {
+        parts = 1;
+        opening = v.opening;
+        session = v.session;
+        seen = v.seen;
+        reading = v.reading;
+        sessions = v.session ∷ [];
+      }
 
   -- a note of what the chair saw and drew, for another
   abbrev pub noted : ChairView P Q R E → ChairView P Q R E
@@ -134,6 +162,7 @@ module _ {P Q R E : Type 0} where
         drawn = v.drawn ++ w.drawn;
         read = v.read ++ w.read;
         reading = read_both v.reading w.reading;
+        sessions = v.sessions ++ w.sessions;
       }
 
   -- what the chairs drew and read, the last chair's first
@@ -184,6 +213,9 @@ module _ {P Q R E : Type 0} (μ : Meaning P Q R E) where
     pub drew : Each (λ d. HasNumberAt K.opening.base K.log d.0 d.1) v.drawn
     pub marked : Marked μ K
     pub reader : Reader μ K v.reading
+    -- all that was drawn for its session, it drew
+    pub own : (n : ℕ) (e : E) → HasNumberAt K.opening.base K.log n e → μ.session e ≡ v.session
+        → 0 < times n v.drawn
 
   -- what a draw asks: whatever is known by now, the chair holds all that the entry changes, the entry may
   -- be drawn, and the queue's mark is not above its number
@@ -256,6 +288,12 @@ module _ {P Q R E : Type 0} (μ : Meaning P Q R E) where
     -- of one chair; where chairs became one, each was in order before
     pub order : v.parts ≡ 1 → IsInOrder μ v
 
+  -- a view, as far as sessions go: its own is among them, and all that was drawn for them, it drew
+  pub record Sitter (K : Known P Q R E) (v : ChairView P Q R E) : Type 0 where
+    pub own : v.parts ≢ 0 → 0 < sits v.session v
+    pub drew : (n : ℕ) (e : E) → HasNumberAt K.opening.base K.log n e → 0 < sits (μ.session e) v
+        → 0 < times n v.drawn
+
 module _ {M P Q R E : Type 0} (μ : Meaning P Q R E) where
   -- the value is what the machine says of the turn
   abbrev pub Stands : Turn → Known P Q R E → Item M P Q R E → Type 0
@@ -309,10 +347,16 @@ module _ {M P Q R E : Type 0} (μ : Meaning P Q R E) where
     pub idle : (j : ℕ) (v : ChairView P Q R E) → get_elem? s.views j ≡ some v → v.parts ≡ 0
         → v.reading.charged ≡ []
 
+  -- sessions: each is one view's at most
+  pub record Sessions (K : Known P Q R E) (s : Now M P Q R E) : Type 0 where
+    pub single : (i : ℕ) → total (sits i) s.views ≤ 1
+    pub each_chair : (j : ℕ) (v : ChairView P Q R E) → get_elem? s.views j ≡ some v → Sitter μ K v
+
   -- all that is known together, with what each layer of the rule says of it
   abbrev pub Ruled : Opening P Q R → ℕ → Now M P Q R E → Type 0
   Ruled o chairs s =
       (K : Known P Q R E) × (K.opening ≡ o) × Turns (turn_at o) K s × Numbers chairs K s × Words K s
+      × Sessions K s
 
   -- ---- what each step shows
 

@@ -120,6 +120,8 @@ pub struct ChairView<P, Q, R, E> {
     pub read: LinkedList<(E, Known<P, Q, R, E>)>,
     /// What it read of the other words, and what it noted.
     pub reading: Reading<P, Q, R, E>,
+    /// The sessions of the chairs that it stands for.
+    pub sessions: LinkedList<u64>,
 }
 
 /// How a desk was opened.

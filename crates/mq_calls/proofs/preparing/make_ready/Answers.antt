@@ -1,4 +1,4 @@
-use Rattle.std.proofs.Common.{◌∙◌, ℕ, ◌≤◌, List, length, refl, sym, ap, subst, arith}
+use Rattle.std.proofs.Common.{◌∙◌, ℕ, ◌+◌, ◌≤◌, List, length, refl, sym, ap, subst, arith}
 use Rattle.std.proofs.lemmas.Result.{IfOk-weaker, err_from_is_err_and}
 use Rattle.mq_blocks.specs.Descriptor.{AreRising}
 use Rattle.mq_blocks.specs.Geometry.{homes_of, write_limit}
@@ -13,7 +13,7 @@ use Rattle.mq_calls.specs.Calling.{call_of}
 use Rattle.mq_calls.specs.Committing.{IsPlacedOn, IsPrepared, HasNoRoom}
 use Rattle.mq_calls.specs.Preparing.{IsEntryReady}
 use Rattle.mq_calls.proofs.ActsCauses.{kept-refused}
-use Rattle.mq_calls.proofs.CommittingDrawable.{called-on, fits-still, is-prepared, lacks-room, plan-of, to-be-drawn, writes-rise}
+use Rattle.mq_calls.proofs.CommittingDrawable.{called-on, fits-still, is-prepared, lacks-room, meets-refusal, plan-of, writes-rise}
 use Rattle.mq_calls.proofs.CommittingInHand.{commit-prepared, commit-read, commit-side}
 use Rattle.mq_calls.proofs.PreparingRoom.{left-alone, made-ready, only-drained}
 use Rattle.mq_calls.proofs.preparing.make_ready.Goals as goal
@@ -25,8 +25,8 @@ returns-in-Some-clause-lacks g c =
     let o = start_of c.args.desk.now in
     let s = c.args.side.now in
     let v = view c.args.chair.now in
-    let kept = kept-refused st fs o c.args.asked.now.queue (view c.args.chair.now) c.requires.at.1 c.args.side.now c.in-Some.cause c.requires.holds.seen c.requires.holds.side (sym c.kept_cause.ensures ∙ c.in-Some.is) in
-    (kept.0, kept.1, to-be-drawn st fs o s.pmr.geometry (call_of c.args.asked.now) c.args.done.now c.args.held.now.cells v v s c.requires.at.1 c.requires.geometry refl (omega arith) refl c.requires.holds c.requires.done c.requires.few c.requires.changes)
+    let kept = kept-refused st fs o c.args.asked.now.queue (view c.args.chair.now) c.requires.at.1 c.args.side.now c.in-Some.cause c.requires.holds.side (sym c.kept_cause.ensures ∙ c.in-Some.is) in
+    (kept.0, meets-refusal st fs o s.pmr.geometry (call_of c.args.asked.now) c.args.done.now c.args.held.now.cells v v s c.in-Some.cause c.requires.at.1 c.requires.geometry refl (omega arith) refl c.requires.holds c.requires.done c.requires.few c.requires.changes kept.1)
 
 pub place-requires-clause-rise : goal.place-requires-clause-rise
 place-requires-clause-rise g c =
@@ -137,7 +137,11 @@ returns-in_err-make_room-clause-lacks g c =
     let here = subst (λ (x : Geometry). IsPlacedOn x q reads cells c.args.done.now.writes.items plan) c.geometry-geometry.ensures on in
     let obstacle = c.in_err-make_room.field-0.0 in
     let room = subst (λ (n : ℕ). HasNoRoom st fs n reads.base plan w v obstacle) c.requires.queue c.in_err-make_room.ensures.lacks in
-    let lacks = lacks-room st fs o s.pmr.geometry (call_of c.args.asked.now) c.args.done.now plan reads cells old v w opening c.requires.geometry c.make_room.ensures.keeps.geometry holds c.requires.done c.requires.few c.requires.changes c.read_words-front.ensures.read here obstacle room in
+    let whole = c.in_ok-place.ensures.whole in
+    let count = ap length c.deref.ensures.value in
+    let few = c.requires.few in
+    let most : length plan.logged + length plan.direct ≤ write_limit s.pmr.geometry = omega arith in
+    let lacks = lacks-room st fs o s.pmr.geometry (call_of c.args.asked.now) c.args.done.now plan reads cells old v w opening (words.session ∙ c.requires.asks.own) c.requires.geometry c.make_room.ensures.keeps.geometry most holds c.requires.done c.requires.few c.requires.changes c.read_words-front.ensures.read here obstacle room in
     let p = err_from_is_err_and c.from_residual-in_err-make_room.result c.from_residual-in_err-make_room.ensures.1 in
     rw (p.1, p.2) lacks
 

@@ -10,7 +10,7 @@ use Rattle.mq_calls.proofs.preparing.make_room.Goals as goal
 
 pub returns-in-Err-clause-lacks : goal.returns-in-Err-clause-lacks
 returns-in-Err-clause-lacks g c =
-    (c.in-Err.ensures.shows, drain-caused g.P.Port.state g.P.Port.faults (start_of c.args.desk.now) c.args.side.now.pmr.queue (view c.args.chair.now) c.requires.at.1 c.args.side.now c.drain_held.new.side c.in-Err.cause c.requires.seen c.requires.side c.in-Err.ensures.drained)
+    (c.in-Err.ensures.shows, drain-caused g.P.Port.state g.P.Port.faults (start_of c.args.desk.now) c.args.side.now.pmr.queue (view c.args.chair.now) c.requires.at.1 c.args.side.now c.drain_held.new.side c.in-Err.cause c.requires.side c.in-Err.ensures.drained)
 
 pub returns-in-Ok-clause-fits : goal.returns-in-Ok-clause-fits
 returns-in-Ok-clause-fits g c =

@@ -7,7 +7,7 @@ use Rattle.mq_calls.proofs.preparing.read_words.Goals as goal
 
 pub returns-clause-read : goal.returns-clause-read
 returns-clause-read g c =
-    has-read g.P.Port.state g.P.Port.faults (start_of c.args.desk.now) (record { front = c.front-front.result; base = c.base-base.result }) (view c.args.chair.now) (view c.front-front.new.chair) (view c.base-base.new.chair) c.requires.some c.front-front.ensures.front c.base-base.ensures.based
+    has-read g.P.Port.state g.P.Port.faults (start_of c.args.desk.now) (record { front = c.front-front.result; base = c.base-base.result }) (view c.args.chair.now) (view c.front-front.new.chair) (view c.base-base.new.chair) c.requires.some c.front-front.ensures.front c.base-base.ensures.based c.base-base.ensures.above
 
 pub returns-clause-seen : goal.returns-clause-seen
 returns-clause-seen g c =

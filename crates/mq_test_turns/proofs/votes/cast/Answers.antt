@@ -1,7 +1,7 @@
 use Rattle.std.proofs.Common.{rules, arith, ◌≡◌, ◌≤◌, ◌+◌, ◌∙◌, ap, sym, refl, suc, ℕ, ◌∷◌}
 use Rattle.mq_turns.specs.AtDesk.{view, start_of}
 use Rattle.mq_test_turns.proofs.SweptFronts.{front_kept}
-use Rattle.mq_test_turns.proofs.Counting.{OnSide, side_taken, side_same, side_cleared, side_covers, side_drawn, side_stands}
+use Rattle.mq_test_turns.proofs.Counting.{OnSide, mine, side_given, side_taken, side_same, side_cleared, side_covers, side_drawn, side_stands}
 use Rattle.mq_test_turns.proofs.votes.cast.Goals as goal
 
 pub draw-number-requires-clause-may : goal.draw-number-requires-clause-may
@@ -34,6 +34,46 @@ give_back-requires-clause-stands g c = λ K sees.
     let two = front_kept c.front-done.ensures.front in
     let j = side_same (λ e. e.queue) (λ e. e.session) (λ e. e.group) (λ q. g.P.Port.state q.port) (start_of c.args.desk.now) c.args.entry.now.queue (view c.clear-2.new.chair) (view c.front-done.new.chair) (record { port = c.bump.new.self }) two.0 two.1 i in
     side_stands (λ e. e.queue) (λ e. e.session) (λ e. e.group) (λ q. g.P.Port.state q.port) (start_of c.args.desk.now) c.args.entry.now.queue (view c.front-done.new.chair) (view c.front-done.new.chair) (record { port = c.bump.new.self }) j ℕ K sees
+
+pub give_back-requires-clause-holds : goal.give_back-requires-clause-holds
+give_back-requires-clause-holds g c =
+    let took = c.in-Side.ensures.took in
+    let a = side_taken (λ e. e.queue) (λ e. e.session) (λ e. e.group) (λ q. g.P.Port.state q.port) (start_of c.args.desk.now) c.args.entry.now.queue (view c.args.chair.now) (view c.take.new.chair) c.in-Side.side took.0 c.requires.queue c.take.ensures.at.1 took.1 c.requires.idle took.3 in
+    let look = c.look-before.ensures.looked in
+    let b = side_same (λ e. e.queue) (λ e. e.session) (λ e. e.group) (λ q. g.P.Port.state q.port) (start_of c.args.desk.now) c.args.entry.now.queue (view c.take.new.chair) (view c.look-before.new.chair) c.in-Side.side (ap (λ v. v.opening) look.1) (ap (λ v. v.held) look.1) a in
+    let clear = c.clear.ensures.cleared in
+    let d = side_cleared (λ e. e.queue) (λ e. e.session) (λ e. e.group) (λ q. g.P.Port.state q.port) (start_of c.args.desk.now) c.args.entry.now.queue (view c.look-before.new.chair) (view c.clear.new.chair) c.in-Side.side b c.saturating_add.result clear.0 clear.2 clear.1 in
+    let drew = c.draw-number.ensures.drew in
+    let e = side_drawn (λ e. e.queue) (λ e. e.session) (λ e. e.group) (λ q. g.P.Port.state q.port) (start_of c.args.desk.now) c.args.entry.now.queue (view c.clear.new.chair) (view c.draw-number.new.chair) c.in-Side.side d c.args.entry.now (record { port = c.bump.new.self }) drew.0 drew.3 drew.1 refl c.bump.ensures in
+    let after = c.look-after.ensures.looked in
+    let f = side_same (λ e. e.queue) (λ e. e.session) (λ e. e.group) (λ q. g.P.Port.state q.port) (start_of c.args.desk.now) c.args.entry.now.queue (view c.draw-number.new.chair) (view c.look-after.new.chair) (record { port = c.bump.new.self }) (ap (λ v. v.opening) after.1) (ap (λ v. v.held) after.1) e in
+    let one = front_kept c.front-undone.ensures.front in
+    let h = side_same (λ e. e.queue) (λ e. e.session) (λ e. e.group) (λ q. g.P.Port.state q.port) (start_of c.args.desk.now) c.args.entry.now.queue (view c.look-after.new.chair) (view c.front-undone.new.chair) (record { port = c.bump.new.self }) one.0 one.1 f in
+    let again = c.clear-2.ensures.cleared in
+    let i = side_cleared (λ e. e.queue) (λ e. e.session) (λ e. e.group) (λ q. g.P.Port.state q.port) (start_of c.args.desk.now) c.args.entry.now.queue (view c.front-undone.new.chair) (view c.clear-2.new.chair) (record { port = c.bump.new.self }) h 18446744073709551615 again.0 again.2 again.1 in
+    let two = front_kept c.front-done.ensures.front in
+    let j = side_same (λ e. e.queue) (λ e. e.session) (λ e. e.group) (λ q. g.P.Port.state q.port) (start_of c.args.desk.now) c.args.entry.now.queue (view c.clear-2.new.chair) (view c.front-done.new.chair) (record { port = c.bump.new.self }) two.0 two.1 i in
+    mine (λ e. e.queue) (λ e. e.session) (λ e. e.group) (λ q. g.P.Port.state q.port) (start_of c.args.desk.now) c.args.entry.now.queue (view c.front-done.new.chair) (view c.front-done.new.chair) (record { port = c.bump.new.self }) j
+
+pub returns-clause-idle : goal.returns-clause-idle
+returns-clause-idle g c =
+    let took = c.in-Side.ensures.took in
+    let a = side_taken (λ e. e.queue) (λ e. e.session) (λ e. e.group) (λ q. g.P.Port.state q.port) (start_of c.args.desk.now) c.args.entry.now.queue (view c.args.chair.now) (view c.take.new.chair) c.in-Side.side took.0 c.requires.queue c.take.ensures.at.1 took.1 c.requires.idle took.3 in
+    let look = c.look-before.ensures.looked in
+    let b = side_same (λ e. e.queue) (λ e. e.session) (λ e. e.group) (λ q. g.P.Port.state q.port) (start_of c.args.desk.now) c.args.entry.now.queue (view c.take.new.chair) (view c.look-before.new.chair) c.in-Side.side (ap (λ v. v.opening) look.1) (ap (λ v. v.held) look.1) a in
+    let clear = c.clear.ensures.cleared in
+    let d = side_cleared (λ e. e.queue) (λ e. e.session) (λ e. e.group) (λ q. g.P.Port.state q.port) (start_of c.args.desk.now) c.args.entry.now.queue (view c.look-before.new.chair) (view c.clear.new.chair) c.in-Side.side b c.saturating_add.result clear.0 clear.2 clear.1 in
+    let drew = c.draw-number.ensures.drew in
+    let e = side_drawn (λ e. e.queue) (λ e. e.session) (λ e. e.group) (λ q. g.P.Port.state q.port) (start_of c.args.desk.now) c.args.entry.now.queue (view c.clear.new.chair) (view c.draw-number.new.chair) c.in-Side.side d c.args.entry.now (record { port = c.bump.new.self }) drew.0 drew.3 drew.1 refl c.bump.ensures in
+    let after = c.look-after.ensures.looked in
+    let f = side_same (λ e. e.queue) (λ e. e.session) (λ e. e.group) (λ q. g.P.Port.state q.port) (start_of c.args.desk.now) c.args.entry.now.queue (view c.draw-number.new.chair) (view c.look-after.new.chair) (record { port = c.bump.new.self }) (ap (λ v. v.opening) after.1) (ap (λ v. v.held) after.1) e in
+    let one = front_kept c.front-undone.ensures.front in
+    let h = side_same (λ e. e.queue) (λ e. e.session) (λ e. e.group) (λ q. g.P.Port.state q.port) (start_of c.args.desk.now) c.args.entry.now.queue (view c.look-after.new.chair) (view c.front-undone.new.chair) (record { port = c.bump.new.self }) one.0 one.1 f in
+    let again = c.clear-2.ensures.cleared in
+    let i = side_cleared (λ e. e.queue) (λ e. e.session) (λ e. e.group) (λ q. g.P.Port.state q.port) (start_of c.args.desk.now) c.args.entry.now.queue (view c.front-undone.new.chair) (view c.clear-2.new.chair) (record { port = c.bump.new.self }) h 18446744073709551615 again.0 again.2 again.1 in
+    let two = front_kept c.front-done.ensures.front in
+    let j = side_same (λ e. e.queue) (λ e. e.session) (λ e. e.group) (λ q. g.P.Port.state q.port) (start_of c.args.desk.now) c.args.entry.now.queue (view c.clear-2.new.chair) (view c.front-done.new.chair) (record { port = c.bump.new.self }) two.0 two.1 i in
+    side_given (λ e. e.queue) (λ e. e.session) (λ e. e.group) (λ q. g.P.Port.state q.port) (start_of c.args.desk.now) c.args.entry.now.queue (view c.front-done.new.chair) (view c.give_back.new.chair) (record { port = c.bump.new.self }) j c.give_back.ensures.gave
 
 -- the fields of the view that only the draw changes
 pub returns-clause-drew : goal.returns-clause-drew

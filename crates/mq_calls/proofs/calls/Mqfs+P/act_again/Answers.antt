@@ -5,9 +5,9 @@ use Rattle.mq_calls.specs.Calling.{call_of}
 use Rattle.mq_calls.specs.Sessions.{IsReady}
 use Rattle.mq_calls.specs.declared.answers.Refusal.{Refusal}
 use Rattle.mq_calls.proofs.Sessions.{ready-more}
-use Rattle.mq_calls.proofs.ActsComposing.{called-acts, called-rests, called-turned}
+use Rattle.mq_calls.proofs.ActsComposing.{called-acts, called-turned}
 use Rattle.mq_calls.proofs.ActsGoingOn.{goes-then}
-use Rattle.mq_calls.proofs.ActsMakingRoom.{acted-again, full-again, full-of, ready-attempted, ready-between, refused-again, turned-of, waits-again}
+use Rattle.mq_calls.proofs.ActsMakingRoom.{acted-again, fits-then, full-of, ready-attempted, ready-between, refused-again, turned-of, waits-again}
 use Rattle.mq_calls.proofs.calls.Mqfs+P.act_again.Goals as goal
 
 pub checkpoint-requires-clause-ready : goal.checkpoint-requires-clause-ready
@@ -85,26 +85,10 @@ returns-in-Err-Refused-clause-refused g c = λ first full.
     let r = e.refusal in
     refused-again st fs geometry call r.cause r.drawn c.in-Ok.field-0 first (view c.args.session.now.chair) m w full c.in-Ok.ensures.raised (turned-of st fs geometry call e.field-0 r m w e.field-0-is e.ensures.missed)
 
--- ---- its plan did not fit again
+-- ---- its plan fits now
 
-pub returns-in-Err-AreaFull-clause-ready : goal.returns-in-Err-AreaFull-clause-ready
-returns-in-Err-AreaFull-clause-ready g c =
-    let a = c.args.asked.now in
-    let m = view c.checkpoint.new.session.chair in
-    let t = c.attempt.new.session in
-    let geometry = c.args.self.now.geometry in
-    let e = c.in-Err-AreaFull in
-    let still = full-of g.P.Port.state g.P.Port.faults geometry (call_of a) e.field-0 m (view t.chair) e.field-0-is e.ensures.missed in
-    let s = c.args.session.now in
-    let ready = ready-between g.P.Port.state g.P.Port.faults geometry a.queue a.calls c.in-Ok.field-0 s.held c.checkpoint.new.session.held (view s.chair) m c.checkpoint.ensures.held c.in-Ok.ensures.raised c.requires.ready in
-    let called = called-rests a.calls m (view t.chair) still.keeps.rests ready.called in
-    ready-attempted geometry a.queue a.calls t.queue t.calls c.checkpoint.new.session.held t.held m (view t.chair) ready c.attempt.ensures.rests called (c.attempt.ensures.queue ∙ c.checkpoint.ensures.queue ∙ c.requires.queue) (c.attempt.ensures.calls ∙ c.checkpoint.ensures.calls ∙ c.requires.calls)
-
-pub returns-in-Err-AreaFull-clause-goes : goal.returns-in-Err-AreaFull-clause-goes
-returns-in-Err-AreaFull-clause-goes g c = goes-then (view c.args.session.now.chair) (view c.checkpoint.new.session.chair) (view c.attempt.new.session.chair) c.checkpoint.ensures.goes c.attempt.ensures.goes
-
-pub returns-in-Err-AreaFull-clause-refused : goal.returns-in-Err-AreaFull-clause-refused
-returns-in-Err-AreaFull-clause-refused g c = λ first full.
+pub unreachable-requires : goal.unreachable-requires
+unreachable-requires g c =
     let st = g.P.Port.state in
     let fs = g.P.Port.faults in
     let geometry = c.args.self.now.geometry in
@@ -112,7 +96,7 @@ returns-in-Err-AreaFull-clause-refused g c = λ first full.
     let m = view c.checkpoint.new.session.chair in
     let w = view c.attempt.new.session.chair in
     let e = c.in-Err-AreaFull in
-    subst (λ (x : Refusal). IsRefused st fs geometry call first w x.cause x.drawn) (sym c.refused.ensures) (full-again st fs geometry call c.in-Ok.field-0 first (view c.args.session.now.chair) m w full c.in-Ok.ensures.raised (full-of st fs geometry call e.field-0 m w e.field-0-is e.ensures.missed))
+    fits-then st fs geometry call c.in-Ok.field-0 (view c.args.session.now.chair) m w c.in-Ok.ensures.raised (full-of st fs geometry call e.field-0 m w e.field-0-is e.ensures.missed)
 
 -- ---- the checkpoint was refused
 
