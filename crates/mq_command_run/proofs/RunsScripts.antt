@@ -6,7 +6,7 @@ use Rattle.mq_blocks.specs.Descriptor.{Descriptor}
 use Rattle.mq_blocks.specs.Geometry.{queues_of}
 use Rattle.mq_command_run.specs.Lines.{script_line, scripts_line}
 use Rattle.mq_command_images.specs.Commands.{RefusesName, SaysNothing, SaysOfImage}
-use Rattle.mq_command_run.specs.RunsScripts.{AreLoaded, HoldBadScript, HoldScripts, IsRunAs, IsScriptIn, RefusesRunning, RefusesScript, RefusesScripts, Runs, are_wanting, no_image, no_run, no_scripts, not_loaded, not_run, ran, refused, run_status, run_text, too_many, unsaved, wanting}
+use Rattle.mq_command_run.specs.RunsScripts.{AreLoaded, HoldBadScript, HoldScripts, IsReportOf, IsRunAs, IsRunFile, IsScriptIn, RefusesRunning, RefusesScript, RefusesScripts, Runs, are_wanting, no_image, no_run, no_scripts, not_loaded, not_run, ran, refused, run_status, run_text, too_many, unsaved, wanting}
 use Rattle.mq_command_run.specs.RunsScripts as runs
 use Rattle.mq_command_io.specs.Ending.{EndsWith, IsLoaded, IsNotSaved, IsSaved, IsUnlessFailed, memory_line}
 use Rattle.mq_command_io.proofs.Ending.{not-loaded-status, not-saved-status, still-memory, unless_wanting}
@@ -24,6 +24,7 @@ use Rattle.mq_image_run.specs.declared.ran.ImageRun.{ImageRun}
 use Rattle.mq_history.specs.Cuts.{Starts}
 use Rattle.mq_history.specs.Laws.{AreSpelled}
 use Rattle.mq_history.proofs.LawsSpelled.{spelled-bytes}
+use Rattle.mq_report_laws.proofs.Images.{may-be-reported}
 use Rattle.mq_run_laws.specs.Images.{KeepsPromise}
 use Rattle.mq_run_laws.proofs.Images.{keeps-promise}
 use Rattle.mq_image_ops.specs.Standing as standings
@@ -132,6 +133,10 @@ loaded-spelled (name ∷ names) (script ∷ scripts) old new loaded (suc s) low 
 kept-promise : (o : RunOptions) (names : List (List ℕ)) (x : DriveImage) (scripts : List Script) (r : ImageRun) (old new : FilesState) → AreLoaded names scripts old new → IsRunOf x scripts o r → KeepsPromise x scripts o r
 kept-promise o names x scripts r old new loaded run = keeps-promise x scripts o r run (spelled-bytes scripts (loaded-spelled names scripts old new loaded))
 
+-- and what is said of their run is its report
+report-of : (o : RunOptions) (names : List (List ℕ)) (x : DriveImage) (scripts : List Script) (r : ImageRun) (file : List ℕ) (status : ℕ) (text : List ℕ) (old new : FilesState) → AreLoaded names scripts old new → IsRunOf x scripts o r → IsRunFile r file status text → IsReportOf r (run_text r)
+report-of o names x scripts r file status text old new loaded run is = subst (IsReportOf r) is.text_is (is.report (may-be-reported x scripts o r run (spelled-bytes scripts (loaded-spelled names scripts old new loaded))))
+
 pub run-saved : (o : RunOptions) (name : List ℕ) (names : List (List ℕ)) (bytes : List ℕ) (x : DriveImage) (scripts : List Script) (file : List ℕ) (status : ℕ) (text : List ℕ) (old mid read new : FilesState) (before between after : SinkState) (result : ℕ)
     → IsLoaded name bytes old mid → IsRead x bytes → AreLoaded names scripts mid read → between ≡ before → IsRunAs x scripts o file status text
     → (IsSaved name file read new × EndsWith status text result between after) ⊎ ((s : ℕ) × (t : List ℕ) × IsNotSaved name read new s t × EndsWith s t result between after)
@@ -139,8 +144,8 @@ pub run-saved : (o : RunOptions) (name : List ℕ) (names : List (List ℕ)) (by
 run-saved o name names bytes x scripts file status text old mid read new before between after result load is loaded same run (inl save) = (
   status,
   text,
-  said-as (Runs o name names old new) (run_status run.0) status (run_text run.0) text run.3.1 run.3.2
-      (ran bytes x scripts run.0 mid read load is loaded run.1 run.2 (kept-promise o names x scripts run.0 mid read loaded run.2) (subst (λ (l : List ℕ). IsSaved name l read new) run.3.0 save.0)),
+  said-as (Runs o name names old new) (run_status run.0) status (run_text run.0) text run.3.status_is run.3.text_is
+      (ran bytes x scripts run.0 mid read load is loaded run.1 run.2 (kept-promise o names x scripts run.0 mid read loaded run.2) (report-of o names x scripts run.0 file status text mid read loaded run.2 run.3) (subst (λ (l : List ℕ). IsSaved name l read new) run.3.file_is save.0)),
   subst (λ (s : SinkState). EndsWith status text result s after) same save.1,
 )
 run-saved o name names bytes x scripts file status text old mid read new before between after result load is loaded same run (inr not) =
@@ -261,7 +266,7 @@ module _ (o : RunOptions) (name : List ℕ) (names : List (List ℕ)) (old new :
   named wanted status text says ends = says-where (SaysOfImage SaysNothing) name bytes wanted old new result status text tells (of-image SaysNothing bytes x wanted read (λ s t nothing. absurd nothing)) says ends
 
   bad-status : HoldBadScript old.contents names → (status : ℕ) (text : List ℕ) → Runs o name names old new status text → IsUnlessFailed status result → IsUnlessFailed 2 result
-  bad-status bad _ _ (ran other y scripts r mid all load is loaded few of keeps save) ends = absurd (bad-unloaded old.contents names scripts mid all load.contents bad loaded)
+  bad-status bad _ _ (ran other y scripts r mid all load is loaded few of keeps reported save) ends = absurd (bad-unloaded old.contents names scripts mid all load.contents bad loaded)
   bad-status bad status text (no_image says) ends = named 2 status text says ends
   bad-status bad status text (no_scripts other y mid load is refuses) ends = scripts-two names mid new status text result refuses ends
   bad-status bad status text (no_run other y scripts mid load is loaded refuses) ends = absurd (bad-unloaded old.contents names scripts mid new load.contents bad loaded)
@@ -273,7 +278,7 @@ module _ (o : RunOptions) (name : List ℕ) (names : List (List ℕ)) (old new :
         → ((status : ℕ) (text : List ℕ) → RefusesRunning x texts status text → IsUnlessFailed status result → Goal)
         → ((r : ImageRun) → length texts ≤ queues_of x.geometry → IsRunOf x texts o r → KeepsPromise x texts o r → IsUnlessFailed (run_status r) result → Goal)
         → (status : ℕ) (text : List ℕ) → Runs o name names old new status text → IsUnlessFailed status result → Goal
-    settled Goal wanted from none run _ _ (ran other y scripts r mid all load is loaded few of keeps save) ends =
+    settled Goal wanted from none run _ _ (ran other y scripts r mid all load is loaded few of keeps reported save) ends =
         let image : y ≡ x = one-image other y mid load is in
         let same : scripts ≡ texts = same-scripts old.contents names scripts texts mid all load.contents hold loaded in
         run r
@@ -337,7 +342,7 @@ module _ (o : RunOptions) (name : List ℕ) (names : List (List ℕ)) (old new :
 -- bytes that are no image
 fault-status : (o : RunOptions) (name : List ℕ) (names : List (List ℕ)) (old new : FilesState) (result : ℕ) (bytes : List ℕ) (e : FileFault) → Tells old.contents name (Some bytes) → HasFault bytes (Some e)
     → (status : ℕ) (text : List ℕ) → Runs o name names old new status text → IsUnlessFailed status result → IsUnlessFailed 3 result
-fault-status o name names old new result bytes e tells has _ _ (ran other y scripts r mid all load is loaded few of keeps save) ends =
+fault-status o name names old new result bytes e tells has _ _ (ran other y scripts r mid all load is loaded few of keeps reported save) ends =
     absurd (read-faulty y bytes e (subst (IsRead y) (one-held old.contents name bytes other tells load.holds) is) has)
 fault-status o name names old new result bytes e tells has status text (no_image says) ends =
     says-where (SaysOfImage SaysNothing) name bytes 3 old new result status text tells (refused-status SaysNothing bytes e has) says ends

@@ -18,6 +18,7 @@ use Rattle.mq_image_ops.specs.declared.refusal.StandingRefusal.{StandingRefusal}
 use Rattle.mq_image_ops.specs.declared.refusal.StandingRefusal.TheVariants as standing
 use Rattle.mq_outside.specs.Outside.{FilesState, Held, Tells}
 use Rattle.mq_run_laws.specs.Images.{KeepsPromise}
+use Rattle.mq_report.specs.Reports.{IsReport, MayBeReported}
 use Rattle.mq_report.specs.Texts.{report_lines, spelled}
 use Rattle.mq_report.specs.declared.line.Told.{Told}
 use Rattle.mq_script.specs.Answers.{Refused}
@@ -95,9 +96,16 @@ run_status r = if are_wanting r.answers.items then 6 else if r.failed then 5 els
 abbrev pub run_text : ImageRun → List ℕ
 run_text r = spelled (report_lines r.base r.entries.items r.answers.items r.last)
 
+-- the text is the report of what a run left, of which there is one reading
+abbrev pub IsReportOf : ImageRun → (text : List ℕ) → Type 0
+IsReportOf r text = IsReport text r.base r.entries.items r.answers.items r.last
+
 -- the file of what a run left, and what is said of it, with its status
-abbrev pub IsRunFile : ImageRun → (file : List ℕ) → (status : ℕ) → (text : List ℕ) → Type 0
-IsRunFile r file status text = (file ≡ image_bytes r.image) × (status ≡ run_status r) × (text ≡ run_text r)
+pub record IsRunFile (r : ImageRun) (file : List ℕ) (status : ℕ) (text : List ℕ) : Type 0 where
+  pub file_is : file ≡ image_bytes r.image
+  pub status_is : status ≡ run_status r
+  pub text_is : text ≡ run_text r
+  pub report : MayBeReported r.entries.items r.answers.items → IsReportOf r text
 
 -- the same of a run of these scripts on this image, which has a queue for each
 abbrev pub IsRunAs : DriveImage → List Script → RunOptions → (file : List ℕ) → (status : ℕ)
@@ -109,8 +117,8 @@ IsRunAs x scripts o file status text =
 -- ---- what there is to say
 
 -- The image that the name held was recovered, the scripts that the other names held were run on it, and the
--- name holds what that left. What is reported of it is a legal list with the answers of its lines, and what
--- the name holds is a cut of this history. Or nothing was saved, and why is said: of the image, then of the
+-- name holds what that left. What is reported of it is a legal list with the answers of its lines, of which
+-- the text is the report, and what the name holds is a cut of this history. Or nothing was saved, and why is said: of the image, then of the
 -- scripts in order, then of their run, and then of the save.
 pub data Runs (o : RunOptions) (name : List ℕ) (names : List (List ℕ))
     (old new : FilesState) : (status : ℕ)
@@ -118,7 +126,7 @@ pub data Runs (o : RunOptions) (name : List ℕ) (names : List (List ℕ))
   ran : (bytes : List ℕ) (x : DriveImage) (scripts : List Script) (r : ImageRun) (mid read : FilesState)
       → IsLoaded name bytes old mid → IsRead x bytes → AreLoaded names scripts mid read
       → length scripts ≤ queues_of x.geometry → IsRunOf x scripts o r → KeepsPromise x scripts o r
-      → IsSaved name (image_bytes r.image) read new
+      → IsReportOf r (run_text r) → IsSaved name (image_bytes r.image) read new
       → Runs o name names old new (run_status r) (run_text r)
   no_image : {status : ℕ} {text : List ℕ} → RefusesName name old new status text
       → Runs o name names old new status text

@@ -1,4 +1,5 @@
 mod Lines
+mod RangesAll
 mod Reports
 mod TextsBack
 mod TextsCutting

@@ -34,3 +34,15 @@ entries-step o p all l left rest is written before =
 
 pub next-line : (ls : List Line) (i : ℕ) (l : Line) → i < length ls → l ≡ get_or ls i l → drop i ls ≡ l ∷ drop (i + 1) ls
 next-line ls i l inside is = drop_more ls i l inside ∙ ap (λ (m : Line). m ∷ drop (i + 1) ls) (sym is)
+
+pub answers-step : (o p all : List ℕ) (t : Told) (left rest : List Told) → left ≡ t ∷ rest → p ≡ o ++ spaced (told_line t) ++ 10 ∷ [] → o ++ spelled (map told_line left) ≡ all → p ++ spelled (map told_line rest) ≡ all
+answers-step o p all t left rest is written before =
+    let more : List ℕ = spelled (map told_line rest) in
+    ap (λ w. w ++ more) written
+    ∙ append_assoc (o ++ spaced (told_line t)) (10 ∷ []) more
+    ∙ append_assoc o (spaced (told_line t)) (10 ∷ more)
+    ∙ ap (λ (ts : List Told). o ++ spelled (map told_line ts)) (sym is)
+    ∙ before
+
+pub next-told : (ts : List Told) (i : ℕ) (t : Told) → i < length ts → t ≡ get_or ts i t → drop i ts ≡ t ∷ drop (i + 1) ts
+next-told ts i t inside is = drop_more ts i t inside ∙ ap (λ (u : Told). u ∷ drop (i + 1) ts) (sym is)

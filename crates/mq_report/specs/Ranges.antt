@@ -47,6 +47,10 @@ IsSmallLast (Cut events) = events < 2 ^ 64
 IsSmallLast (StoppedTx tx) = tx < 2 ^ 64
 IsSmallLast (StoppedBlock block) = block < 2 ^ 64
 
+-- so are the replies of all groups
+abbrev pub HaveFitReplies : List Line → Type 0
+HaveFitReplies lines = All (λ l. All IsFit l.replies) lines
+
 abbrev pub AreFit : List Line → Type 0
 AreFit [] = Unit {0}
 AreFit (l ∷ ls) = All IsFit l.replies × IsSmallLine l × AreFit ls

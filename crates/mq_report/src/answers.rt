@@ -1,6 +1,8 @@
 // What each group was answered.
 ghost use Rattle.std.specs.Prelude.{◌≡◌, ◌++◌, ◌∷◌, [], Ok, OnOk, map};
+ghost use Rattle.std.specs.List.{All};
 ghost use Rattle.mq_report.specs.Lines.{answer_of, call_answer, drive_answer};
+ghost use Rattle.mq_report.specs.Ranges.{IsSmallAnswer, IsSmallTold};
 ghost use Rattle.mq_report.specs.Texts.{after_spaces, answer_words, spaced, spelled, told_line};
 
 use crate::line::Told;
@@ -11,7 +13,8 @@ use mq_queue_side::Cause;
 
 /// Writes why the drive refused a group that had drawn this number.
 fn put_cause(out: &mut Vec<u8>, cause: Cause, drawn: Option<TxNo>) -> Result<(), OutOfMemory>
-    ensures { OnOk result (out.new.items ≡ out.old.items ++ after_spaces (answer_words (drive_answer cause drawn))) }
+    ensures text { OnOk result (out.new.items ≡ out.old.items ++ after_spaces (answer_words (drive_answer cause drawn))) }
+    ensures small { OnOk result (IsSmallAnswer (drive_answer cause drawn)) }
 {
     match cause {
         Cause::Off => {
@@ -36,7 +39,8 @@ fn put_cause(out: &mut Vec<u8>, cause: Cause, drawn: Option<TxNo>) -> Result<(),
 
 /// Writes why a group was refused.
 fn put_refusal(out: &mut Vec<u8>, refusal: Refusal) -> Result<(), OutOfMemory>
-    ensures { OnOk result (out.new.items ≡ out.old.items ++ after_spaces (answer_words (call_answer refusal.cause refusal.drawn))) }
+    ensures text { OnOk result (out.new.items ≡ out.old.items ++ after_spaces (answer_words (call_answer refusal.cause refusal.drawn))) }
+    ensures small { OnOk result (IsSmallAnswer (call_answer refusal.cause refusal.drawn)) }
 {
     let Refusal { cause, drawn } = refusal;
     match cause {
@@ -48,7 +52,8 @@ fn put_refusal(out: &mut Vec<u8>, refusal: Refusal) -> Result<(), OutOfMemory>
 }
 
 fn put_answer(out: &mut Vec<u8>, answer: Result<TxNo, Refusal>) -> Result<(), OutOfMemory>
-    ensures { OnOk result (out.new.items ≡ out.old.items ++ after_spaces (answer_words (answer_of answer))) }
+    ensures text { OnOk result (out.new.items ≡ out.old.items ++ after_spaces (answer_words (answer_of answer))) }
+    ensures small { OnOk result (IsSmallAnswer (answer_of answer)) }
 {
     match answer {
         Ok(number) => put_named(out, b"ok", number.0),
@@ -57,7 +62,8 @@ fn put_answer(out: &mut Vec<u8>, answer: Result<TxNo, Refusal>) -> Result<(), Ou
 }
 
 fn put_told(out: &mut Vec<u8>, told: &Told) -> Result<(), OutOfMemory>
-    ensures { OnOk result (out.new.items ≡ out.old.items ++ spaced (told_line told.now) ++ 10 ∷ []) }
+    ensures text { OnOk result (out.new.items ≡ out.old.items ++ spaced (told_line told.now) ++ 10 ∷ []) }
+    ensures small { OnOk result (IsSmallTold told.now) }
 {
     out.extend_from_slice(b"answer")?;
     put_number(out, u64::from(told.session))?;
@@ -69,7 +75,8 @@ fn put_told(out: &mut Vec<u8>, told: &Told) -> Result<(), OutOfMemory>
 
 /// Writes each answer on a line.
 pub fn put_answers(out: &mut Vec<u8>, answers: &[Told]) -> Result<(), OutOfMemory>
-    ensures { OnOk result (out.new.items ≡ out.old.items ++ spelled (map told_line answers.now)) }
+    ensures text { OnOk result (out.new.items ≡ out.old.items ++ spelled (map told_line answers.now)) }
+    ensures small { OnOk result (All IsSmallTold answers.now) }
 {
     for told in answers {
         put_told(out, told)?;

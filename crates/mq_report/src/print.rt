@@ -1,6 +1,9 @@
 // The text of a report.
 ghost use Rattle.std.specs.Prelude.{◌≡◌, ◌++◌, ◌∷◌, [], IfOk, OnOk};
+ghost use Rattle.std.specs.List.{All};
 ghost use Rattle.mq_script.specs.Spelled.{end_word};
+ghost use Rattle.mq_report.specs.Ranges.{IsSmallLast, IsSmallLine};
+ghost use Rattle.mq_report.specs.Reports.{IsReport, MayBeReported};
 ghost use Rattle.mq_report.specs.Texts.{base_line, entry_line, entry_lines, entry_word, group_lines, last_line, report_lines, spaced, spelled};
 
 use crate::answers::put_answers;
@@ -37,7 +40,8 @@ fn put_base(out: &mut Vec<u8>, base: TxNo) -> Result<(), OutOfMemory>
 }
 
 fn put_entry(out: &mut Vec<u8>, line: &Line) -> Result<(), OutOfMemory>
-    ensures { OnOk result (out.new.items ≡ out.old.items ++ spaced (entry_line line.now) ++ 10 ∷ []) }
+    ensures text { OnOk result (out.new.items ≡ out.old.items ++ spaced (entry_line line.now) ++ 10 ∷ []) }
+    ensures small { OnOk result (IsSmallLine line.now) }
 {
     out.extend_from_slice(entry_name(line.commit))?;
     put_number(out, line.number.0)?;
@@ -50,14 +54,16 @@ fn put_entry(out: &mut Vec<u8>, line: &Line) -> Result<(), OutOfMemory>
 
 /// Writes an entry and its replies below it.
 fn put_group(alloc: Global, out: &mut Vec<u8>, line: &Line) -> Result<(), OutOfMemory>
-    ensures { OnOk result (out.new.items ≡ out.old.items ++ spelled (group_lines line.now)) }
+    ensures text { OnOk result (out.new.items ≡ out.old.items ++ spelled (group_lines line.now)) }
+    ensures small { OnOk result (IsSmallLine line.now) }
 {
     put_entry(out, line)?;
     put_replies(alloc, out, &line.replies)
 }
 
 fn put_entries(alloc: Global, out: &mut Vec<u8>, entries: &[Line]) -> Result<(), OutOfMemory>
-    ensures { OnOk result (out.new.items ≡ out.old.items ++ spelled (entry_lines entries.now)) }
+    ensures text { OnOk result (out.new.items ≡ out.old.items ++ spelled (entry_lines entries.now)) }
+    ensures small { OnOk result (All IsSmallLine entries.now) }
 {
     for line in entries {
         put_group(alloc, out, line)?;
@@ -67,7 +73,8 @@ fn put_entries(alloc: Global, out: &mut Vec<u8>, entries: &[Line]) -> Result<(),
 
 /// Writes how a run ended, without a line feed.
 fn put_last(out: &mut Vec<u8>, last: &Last) -> Result<(), OutOfMemory>
-    ensures { OnOk result (out.new.items ≡ out.old.items ++ spaced (last_line last.now)) }
+    ensures text { OnOk result (out.new.items ≡ out.old.items ++ spaced (last_line last.now)) }
+    ensures small { OnOk result (IsSmallLast last.now) }
 {
     match last {
         Last::Clean(number) => {
@@ -90,7 +97,8 @@ fn put_last(out: &mut Vec<u8>, last: &Last) -> Result<(), OutOfMemory>
 }
 
 /// The text of a report: the base at the start, the entries with their replies, the answers, and how the
-/// run ended.
+/// run ended. Where entries and answers stand in their order, and replies are bytes and good names, the text
+/// has one reading.
 pub fn report(
     alloc: Global,
     base: TxNo,
@@ -99,6 +107,8 @@ pub fn report(
     last: &Last,
 ) -> Result<Vec<u8>, OutOfMemory>
     ensures text { IfOk result (λ r. r.items ≡ spelled (report_lines base entries.now answers.now last.now)) }
+    ensures report { IfOk result (λ r. MayBeReported entries.now answers.now
+        → IsReport r.items base entries.now answers.now last.now) }
 {
     let mut out = Vec::new(alloc);
     put_base(&mut out, base)?;

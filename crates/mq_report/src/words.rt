@@ -1,5 +1,6 @@
 // The words of a line, each after a space.
 ghost use Rattle.std.specs.Prelude.{◌≡◌, ◌++◌, ◌∷◌, OnOk, decimal};
+ghost use Rattle.mq_report.specs.Ranges.{IsSmallDrawn};
 ghost use Rattle.mq_report.specs.Texts.{drawn_word};
 
 use itoa::Buffer;
@@ -32,7 +33,8 @@ pub fn put_named(out: &mut Vec<u8>, word: &[u8], number: u64) -> Result<(), OutO
 
 /// Writes a space and the number, or a dash where none was drawn.
 pub fn put_drawn(out: &mut Vec<u8>, drawn: Option<TxNo>) -> Result<(), OutOfMemory>
-    ensures { OnOk result (out.new.items ≡ out.old.items ++ 32 ∷ drawn_word drawn) }
+    ensures text { OnOk result (out.new.items ≡ out.old.items ++ 32 ∷ drawn_word drawn) }
+    ensures small { OnOk result (IsSmallDrawn drawn) }
 {
     match drawn {
         Some(number) => put_number(out, number.0),

@@ -206,7 +206,7 @@ no-nothing : (x : DriveImage) (status : ℕ) (text : List ℕ) → SaysNothing x
 no-nothing x status text nothing = absurd nothing
 
 of-run : (image : List ℕ) (names : List (List ℕ)) (options : RunFlags) (old new : FilesState) (status : ℕ) (text : List ℕ) → Runs (run_options options) image names old new status text → Course (run image names options) old new status text
-of-run image names options old new _ _ (ran bytes x scripts r mid read load is were few of keeps save) =
+of-run image names options old new _ _ (ran bytes x scripts r mid read load is were few of keeps reported save) =
     ends_whole read (bytes, mid, load, scripts-read names scripts mid read were)
     (image_bytes r.image, new, (refl, bytes, x, scripts, r, mid, read, load, is, were, of, keeps, refl), save, refl) (whole-run (are_wanting r.answers.items) r.failed)
 of-run image names options old new status text (runs.no_image says) = of-refused (run image names options) image names refl SaysNothing no-nothing old new status text says

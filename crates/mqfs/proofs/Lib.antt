@@ -4,4 +4,5 @@ pub mod ProgramEndings
 pub mod Played
 pub mod Ran
 pub mod Complete
+pub mod Covered
 pub mod ProgramTold

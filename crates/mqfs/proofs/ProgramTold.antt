@@ -452,8 +452,8 @@ no-image-status : (x : DriveImage) (status : ℕ) (text : List ℕ) → SaysNoth
 no-image-status x status text nothing = absurd nothing
 
 told_run : (o : RunOptions) (name : List ℕ) (names : List (List ℕ)) (old new : FilesState) (status : ℕ) (text : List ℕ) → Runs o name names old new status text → Told (name ∷ []) (name ∷ names) Nothing (Runs o name names old new 2 text) (Runs o name names old new 5 text) old new status
-told_run o name names old new _ _ (ran bytes x scripts r mid read load is were few of keeps save) =
-    was-run o name names old new _ _ (ran bytes x scripts r mid read load is were few of keeps save) (image_bytes r.image) read (statuses-of-run (are_wanting r.answers.items) r.failed)
+told_run o name names old new _ _ (ran bytes x scripts r mid read load is were few of keeps reported save) =
+    was-run o name names old new _ _ (ran bytes x scripts r mid read load is were few of keeps reported save) (image_bytes r.image) read (statuses-of-run (are_wanting r.answers.items) r.failed)
     (after-load (length names) name bytes old mid read load (told_loaded names scripts mid read were)) save
 told_run o name names old new status text (runs.no_image says) =
     weaker (name ∷ []) (name ∷ names) _ _ old new status (told_image (SaysOfImage SaysNothing) (statuses SaysNothing no-image-status) (name ∷ []) names name old new status text says)

@@ -55,7 +55,7 @@ none-run x scripts _ _ runs.RefusesRunning.wanting good = elim good [ inl e ↦ 
 
 module _ (image : List ℕ) (names : List (List ℕ)) (options : RunFlags) (files new_files : FilesState) (old new : SinkState) where
   ran_of : (status : ℕ) (text : List ℕ) → Runs (run_options options) image names files new_files status text → IsRunStatus status → new.contents ≡ appended old.contents text → IsRan image names options status files new_files old new
-  ran_of _ _ (ran bytes x scripts r mid all load is loaded few of keeps save) good out = record {
+  ran_of _ _ (ran bytes x scripts r mid all load is loaded few of keeps reported save) good out = record {
     bytes = bytes;
     x = x;
     scripts = scripts;
@@ -67,6 +67,7 @@ module _ (image : List ℕ) (names : List (List ℕ)) (options : RunFlags) (file
     scripts_are = loaded;
     run = of;
     promise = keeps;
+    report = reported;
     saved = save;
     said = out;
     status = refl;

@@ -1,6 +1,6 @@
 -- The status with which each command ends, by what the files hold, where nothing fails and memory does not
 -- run out: one definition for each command.
-use Rattle.std.specs.Prelude.{◌≡◌, ◌<◌, ◌≤◌, ℕ, List, length, Option, None, Some, Ok, Err}
+use Rattle.std.specs.Prelude.{◌≡◌, ◌⊎◌, ◌<◌, ◌≤◌, ℕ, List, length, Option, None, Some, Ok, Err}
 use Rattle.mq_blocks.specs.Descriptor.{Descriptor}
 use Rattle.mq_blocks.specs.Geometry.{queues_of}
 use Rattle.mq_blocks.specs.Journal.{AreWhole}
@@ -138,3 +138,9 @@ Decides version held status = status ≡ 0
 abbrev pub RunsThere : Asked → Option Held → Type 0
 RunsThere (run image scripts options) held = IsRunnable image scripts held
 RunsThere _ held = ⊥
+
+-- what the files tell decides the status so; or a run is there, which ends with 0, or with 5 where its command
+-- was to fail
+abbrev pub IsCovered : Asked → Option Held → (status : ℕ) → Type 0
+IsCovered a held status =
+    Decides a held status ⊎ (RunsThere a held × ((status ≡ 0) ⊎ (status ≡ 5)))

@@ -1,6 +1,6 @@
 -- What `mqfs run` comes to where the scripts were run.
 use Rattle.std.specs.Prelude.{◌≡◌, ℕ, List}
-use Rattle.mq_command_run.specs.RunsScripts.{AreLoaded, run_status, run_text}
+use Rattle.mq_command_run.specs.RunsScripts.{AreLoaded, IsReportOf, run_status, run_text}
 use Rattle.mq_command_io.specs.Ending.{IsLoaded, IsSaved}
 use Rattle.mq_image.specs.Drives.{IsRead}
 use Rattle.mq_image.specs.File.{DriveImage, image_bytes}
@@ -15,7 +15,8 @@ use Rattle.mqfs.specs.Says.{run_options}
 
 -- The name of the image held a file that is read as an image, and the other names held scripts. A run of
 -- these scripts on this image was made, and keeps its promise. The name holds the file of the image that it
--- left now, and its report was said. The status is 5 where the command that was to fail was executed.
+-- left now, and its report was said, of which there is one reading. The status is 5 where the command that
+-- was to fail was executed.
 pub record IsRan (image : List ℕ) (names : List (List ℕ)) (options : RunFlags) (result : ℕ)
     (files new_files : FilesState) (old new : SinkState) : Type 0 where
   pub bytes : List ℕ
@@ -30,6 +31,7 @@ pub record IsRan (image : List ℕ) (names : List (List ℕ)) (options : RunFlag
   pub run : IsRunOf x scripts (run_options options) r
   pub promise : KeepsPromise x scripts (run_options options) r
   pub saved : IsSaved image (image_bytes r.image) all new_files
+  pub report : IsReportOf r (run_text r)
   pub said : new.contents ≡ appended old.contents (run_text r)
   pub status : result ≡ run_status r
 

@@ -2,13 +2,13 @@
 ghost use Rattle.std.specs.Prelude.{◌≡◌, ◌≢◌, ◌⊎◌, ℕ, List, None, Option, Some, map};
 ghost use Rattle.std.specs.String.{string_bytes};
 ghost use Rattle.mq_command_io.specs.Ending.{EndsWith, IsUnlessFailed};
-ghost use Rattle.mq_outside.specs.Outside.{Rose, appended};
+ghost use Rattle.mq_outside.specs.Outside.{Held, Rose, appended};
 ghost use Rattle.mq_run_laws.specs.Recovering.{EveryInterleavingIsRecovered};
 ghost use Rattle.mq_cli.specs.Asked.{Asked, HasScript, HasSmallNumbers, asked, asked_of, blocks, gen, run};
 ghost use Rattle.mq_cli.specs.declared.command.BlocksOptions.{BlocksOptions};
 ghost use Rattle.mq_cli.specs.declared.command.RunFlags.{RunFlags};
 ghost use Rattle.mqfs.specs.Course.{Course, IsFault, IsOutOfMemory};
-ghost use Rattle.mqfs.specs.Decided.{Decides, IsRunnable, RunsThere};
+ghost use Rattle.mqfs.specs.Decided.{Decides, IsCovered, IsRunnable, RunsThere};
 ghost use Rattle.mqfs.specs.Played.{IsPlayed};
 ghost use Rattle.mqfs.specs.Program.{AreUnknown, IsDone, IsEndedRun, IsMisreadTrace, IsRefusedText, IsSaid, IsStatus, IsToSay, IsTooLong, KeepsNames, TakesFor, usage_line};
 ghost use Rattle.mqfs.specs.Ran.{IsRan, IsRanWhole};
@@ -170,6 +170,11 @@ pub fn mqfs<F: Files, K: Sink, R: Threads + Wait + Sync, G: Gate + Sync>(
         → asked_of (map string_bytes words.now) ≡ Some a
         → RunsThere a (F.state files.old).contents
         → (result ≡ 5) ⊎ IsUnlessFailed 0 result }
+    // Whatever files tell that they hold is decided: it decides this status, or such a run is there, 4 and 6 aside.
+    ensures covered { (a : Asked) (held : Held)
+        → asked_of (map string_bytes words.now) ≡ Some a
+        → (F.state files.old).contents ≡ Some held
+        → IsCovered a (Some held) result ⊎ ((result ≡ 4) ⊎ (result ≡ 6)) }
     // `blocks`: the output is that of the lines that stand, of the text that the file holds; an image and a trace are saved
     // where names for them are given.
     ensures done { (file : List ℕ) (options : BlocksOptions) (save trace : Option (List ℕ))

@@ -7,6 +7,7 @@ use Rattle.mqfs.proofs.Course.{course-told, fault-told, memory-told}
 use Rattle.mqfs.proofs.ProgramEndings.{contents_told, done_told, failed_told, fault_told, names_told, refused_told, said_told, same_told, status_told, takes_told, usage_told, usage-where}
 use Rattle.mqfs.proofs.Played.{played_told}
 use Rattle.mqfs.proofs.Complete.{whole_told}
+use Rattle.mqfs.proofs.Covered.{covered_told}
 use Rattle.mqfs.proofs.Ran.{ran_told}
 use Rattle.mqfs.proofs.program.mqfs.Goals as goal
 
@@ -85,3 +86,7 @@ returns-clause-course g c = λ a asks.
       course-told (map string_bytes c.args.words.now) (g.F.Files.state c.args.files.now) (g.F.Files.state c.read_and_run.new.files) (g.K.Sink.state c.args.out.now) (g.K.Sink.state c.read_and_run.new.out) a asks ends.0 ends.1 ends.2,
       ends.3,
     )
+
+pub returns-clause-covered : goal.returns-clause-covered
+returns-clause-covered g c = λ a held asks told.
+    covered_told held (g.F.Files.state c.args.files.now) told (map string_bytes c.args.words.now) a (g.F.Files.state c.read_and_run.new.files) c.read_and_run.ensures.ends.0 c.read_and_run.ensures.ends.1 c.read_and_run.result (g.K.Sink.state c.args.out.now) (g.K.Sink.state c.read_and_run.new.out) asks c.read_and_run.ensures.ends.2 c.read_and_run.ensures.ends.3

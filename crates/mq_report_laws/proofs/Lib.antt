@@ -1,0 +1,3 @@
+pub mod Images
+mod Orders
+mod Replies
