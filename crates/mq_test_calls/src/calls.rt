@@ -34,6 +34,21 @@ pub trait Calls: Shaped {
         ensures ready { is_ready files.now.geometry user.new.queue user.new.calls user.new.held
             (view user.new.chair) };
 
+    /// Executes a group by `fatomic`. Returns its number if it was done.
+    fn fatomic<R: Wait>(
+        rt: &R,
+        alloc: Global,
+        files: &FileSystem<Self>,
+        user: &mut User<Self>,
+        requests: &[Request],
+    ) -> Option<TxNo>
+        requires desk { AtDesk files.now.desk user.old.chair }
+        requires ready { is_ready files.now.geometry user.old.queue user.old.calls user.old.held
+            (view user.old.chair) }
+        ensures desk { AtDesk files.now.desk user.new.chair }
+        ensures ready { is_ready files.now.geometry user.new.queue user.new.calls user.new.held
+            (view user.new.chair) };
+
     /// Makes a checkpoint. Returns the base if it was made.
     fn checkpoint<R: Wait>(
         rt: &R,
@@ -62,6 +77,19 @@ impl<P: Port + Drop> Calls for FileMachine<P> {
         requests: &[Request],
     ) -> Option<TxNo> {
         match files.fsync(rt, alloc, user, requests, &Open) {
+            Ok(answer) => Some(answer.at),
+            Err(_) => None,
+        }
+    }
+
+    fn fatomic<R: Wait>(
+        rt: &R,
+        alloc: Global,
+        files: &FileSystem<FileMachine<P>>,
+        user: &mut User<FileMachine<P>>,
+        requests: &[Request],
+    ) -> Option<TxNo> {
+        match files.fatomic(rt, alloc, user, requests, &Open) {
             Ok(answer) => Some(answer.at),
             Err(_) => None,
         }

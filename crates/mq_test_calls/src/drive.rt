@@ -1,8 +1,10 @@
-// A drive under a watch, on which two sessions make their calls.
+// A drive under a watch, on which sessions make their calls.
 ghost use Rattle.std.specs.Prelude.{◌≡◌, ◌+◌, ◌≤◌, IfOk, None, map, vec_len};
 ghost use Rattle.std.specs.List.{All};
 ghost use Rattle.mq_blocks.specs.Geometry.{queues_of};
+ghost use Rattle.mq_calls.specs.Helpers.{IsAtEase};
 ghost use Rattle.mq_calls.specs.Sessions.{IsReady};
+ghost use Rattle.mq_drive.specs.Emu.{emu_state};
 ghost use Rattle.mq_drive.specs.Seats.{name_of};
 ghost use Rattle.mq_image.specs.File.{DriveImage as Image};
 ghost use Rattle.mq_image_ops.specs.Recovering.{IsRecoveryOf};
@@ -14,8 +16,8 @@ ghost use Rattle.mq_turns.specs.AtDesk.{AtDesk, chairs_of, view};
 use crate::hold::Hold;
 use crate::together::{Answers, Called, Course, call_both};
 use mq_blocks::{Geometry, OutOfMemory};
-use mq_calls::{Mqfs, Session, find_volume};
-use mq_drive::{Fuse, FuseSeat, Port, Ports};
+use mq_calls::{Helper, Mqfs, Session, find_volume};
+use mq_drive::{EmuPort, Fuse, FuseSeat, Port, Ports};
 use mq_image_ops::{
     CutDrive, RecoveredImage, StandingRefusal, a_recovered_image_starts, cut_ports, format_drive,
     recover_image, start_ports,
@@ -71,19 +73,24 @@ pub fn recovered(alloc: Global, geometry: Geometry) -> Result<RecoveredImage, St
     Ok(recover_image(alloc, image, None, 0)?)
 }
 
-// A file system over the ports, and its two sessions.
-fn open_pair<P: Port + Drop>(
+/// A file system over the ports, with sessions and with helpers.
+pub fn open_over<P: Port + Drop>(
     alloc: Global,
     geometry: Geometry,
     ports: Ports<P>,
-) -> Result<(Mqfs<P>, Vec<Session<P>>), StandingRefusal>
+    sessions: u32,
+    helpers: u32,
+) -> Result<(Mqfs<P>, Vec<Session<P>>, Vec<Helper<P>>), StandingRefusal>
     requires still { IsQuiescentDrive geometry (drive_of P.state ports) }
     requires start { IsStartDrive geometry (drive_of P.state ports) }
-    requires queues { 2 ≤ queues_of geometry }
-    ensures chairs { IfOk result (λ o. chairs_of o.0.desk ≡ 2) }
-    ensures count { IfOk result (λ o. vec_len o.1 ≡ 2) }
+    requires sessions { (1 ≤ sessions) × (sessions ≤ queues_of geometry) }
+    requires helpers { helpers ≤ 16 }
+    ensures chairs { IfOk result (λ o. chairs_of o.0.desk ≡ sessions + helpers) }
+    ensures count { IfOk result (λ o. vec_len o.1 ≡ sessions) }
     ensures each { IfOk result (λ o. All (λ s. AtDesk o.0.desk s.chair
         × IsReady o.0.geometry s.queue s.calls s.held (view s.chair)) o.1.items) }
+    ensures aided { IfOk result (λ o. vec_len o.2 ≡ helpers) }
+    ensures idle { IfOk result (λ o. All (λ h. AtDesk o.0.desk h.chair × IsAtEase (view h.chair)) o.2.items) }
 {
     let standing = find_volume(alloc, geometry, &ports)?;
     if standing.base.0 > 1 << 62 {
@@ -91,14 +98,14 @@ fn open_pair<P: Port + Drop>(
             base: standing.base.0,
         }));
     }
-    match Mqfs::open(alloc, geometry, ports, standing, 2) {
+    match Mqfs::open_with(alloc, geometry, ports, standing, sessions, helpers) {
         Ok(opened) => Ok(opened),
         Err((_, full)) => Err(StandingRefusal::from(full)),
     }
 }
 
-// Ends a file system whose sessions are these two. Gives its ports back.
-fn end_pair<P: Port + Drop>(
+/// Ends a file system whose sessions are these two. Gives its ports back.
+pub fn end_pair<P: Port + Drop>(
     alloc: Global,
     files: Mqfs<P>,
     first: Session<P>,
@@ -133,7 +140,7 @@ fn run_over<P: Port + Drop + Send, R: Threads + Wait + Sync>(
     requires start { IsStartDrive geometry (drive_of P.state ports) }
     requires queues { 2 ≤ queues_of geometry }
 {
-    let (files, mut sessions) = open_pair(alloc, geometry, ports)?;
+    let (files, mut sessions, _) = open_over(alloc, geometry, ports, 2, 0)?;
     let (Some(second), Some(first)) = (sessions.pop(), sessions.pop()) else {
         unreachable!()
     };
@@ -146,8 +153,28 @@ fn run_over<P: Port + Drop + Send, R: Threads + Wait + Sync>(
     Ok((answers, ports))
 }
 
-/// Two sessions make their calls on the drive that starts from a recovered image, under the watch that
-/// holds a checkpoint of the first one. Then its power is cut.
+/// The ports of the drive that starts from a recovered image, under a watch.
+pub fn start_watched<'f, W: Watch>(
+    alloc: Global,
+    fuse: &'f Fuse,
+    seats: Vec<FuseSeat>,
+    left: RecoveredImage,
+    watch: &'f W,
+) -> Result<Ports<WatchPort<'f, EmuPort<'f>, W>>, OutOfMemory>
+    requires recovery { (x : Image) × IsRecoveryOf x None left }
+    requires seats { AreFreshSeats (name_of fuse.now) (queues_of left.image.geometry + 1) seats.items }
+    ensures still { IfOk result (λ p. IsQuiescentDrive left.image.geometry
+        (drive_of (λ w. emu_state w.port) p)) }
+    ensures start { IfOk result (λ p. IsStartDrive left.image.geometry (drive_of (λ w. emu_state w.port) p)) }
+{
+    let ports = start_ports(alloc, fuse, seats, left.image, None, 0)?;
+    a_recovered_image_starts();
+    let held = watched(alloc, ports, watch)?;
+    Ok(held)
+}
+
+/// Two sessions make their calls on the drive that starts from a recovered image, under the watch that holds
+/// the first one. Then its power is cut.
 pub fn run_held<R: Threads + Wait + Sync>(
     rt: &R,
     alloc: Global,
@@ -161,11 +188,8 @@ pub fn run_held<R: Threads + Wait + Sync>(
     requires seats { AreFreshSeats (name_of fuse.now) (queues_of left.image.geometry + 1) seats.items }
     requires queues { 2 ≤ queues_of left.image.geometry }
 {
-    let image = left.image;
-    let geometry = image.geometry;
-    let ports = start_ports(alloc, fuse, seats, image, None, 0)?;
-    a_recovered_image_starts();
-    let held = watched(alloc, ports, hold)?;
+    let geometry = left.image.geometry;
+    let held = start_watched(alloc, fuse, seats, left, hold)?;
     let (answers, held) = run_over(rt, alloc, geometry, held, course, hold)?;
     let cut = cut_ports(alloc, unwatched(alloc, held)?, 0)?;
     Ok((answers, cut))

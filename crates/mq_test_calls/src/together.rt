@@ -1,4 +1,4 @@
-// Two sessions at once: one commits while a checkpoint of the other one is held.
+// Two sessions at once: one commits while a call of the other one is held.
 ghost use Rattle.mq_calls.specs.Sessions.{IsReady};
 ghost use Rattle.mq_turns.specs.AtDesk.{AtDesk, view};
 
@@ -16,24 +16,26 @@ use std::alloc::Global;
 use std::sync::Wait;
 use std::thread::{Threads, join};
 
-/// What the first session does when a checkpoint of it is to be held.
+/// What a session does.
 #[derive(Clone, Copy)]
 pub enum Step<'s> {
-    /// It makes the checkpoint.
+    /// It makes a checkpoint.
     Checkpoint,
-    /// It executes this group. Its journal area has no room for it, so the call makes the checkpoint first.
-    Group(&'s [Request]),
+    /// It executes this group by `fsync`. If its journal area has no room for it, the call makes a checkpoint first.
+    Fsync(&'s [Request]),
+    /// The same by `fatomic`.
+    Fatomic(&'s [Request]),
 }
 
 /// What two sessions do.
 #[derive(Clone, Copy)]
 pub struct Course<'s> {
-    /// The first session's group before its step.
+    /// The first session's group before its step, by `fsync`.
     pub before: &'s [Request],
-    /// The first session's step.
+    /// The first session's step, in which a call on a port is held.
     pub step: Step<'s>,
-    /// The second session's group, beside that step.
-    pub beside: &'s [Request],
+    /// The second session's step, once that call is reached.
+    pub beside: Step<'s>,
 }
 
 /// What two sessions were answered; `None` is a refusal.
@@ -41,9 +43,9 @@ pub struct Course<'s> {
 pub struct Answers {
     /// The number of the first session's group.
     pub before: Option<TxNo>,
-    /// The base of its checkpoint, or the number of the group that is its step.
+    /// The base of the checkpoint that is its step, or the number of the group.
     pub step: Option<TxNo>,
-    /// The number of the second session's group.
+    /// The same of the second session's step.
     pub beside: Option<TxNo>,
 }
 
@@ -55,8 +57,8 @@ pub struct Called<M: Machine> {
     pub answers: Answers,
 }
 
-// The checkpoint of a session.
-fn make_checkpoint<M: Calls, R: Wait>(
+// A checkpoint of a session.
+fn checkpoint<M: Calls, R: Wait>(
     rt: &R,
     alloc: Global,
     files: &FileSystem<M>,
@@ -72,8 +74,8 @@ fn make_checkpoint<M: Calls, R: Wait>(
     (user, base)
 }
 
-// A commit of a session.
-fn commit<M: Calls, R: Wait>(
+// A group of a session by `fsync`.
+fn fsync<M: Calls, R: Wait>(
     rt: &R,
     alloc: Global,
     files: &FileSystem<M>,
@@ -90,7 +92,25 @@ fn commit<M: Calls, R: Wait>(
     (user, at)
 }
 
-// The step of the first session.
+// A group of a session by `fatomic`.
+fn fatomic<M: Calls, R: Wait>(
+    rt: &R,
+    alloc: Global,
+    files: &FileSystem<M>,
+    user: User<M>,
+    requests: &[Request],
+) -> (User<M>, Option<TxNo>)
+    requires desk { AtDesk files.now.desk user.chair }
+    requires ready { M.is_ready files.now.geometry user.queue user.calls user.held (view user.chair) }
+    ensures desk { AtDesk files.now.desk result.0.chair }
+    ensures ready { M.is_ready files.now.geometry result.0.queue result.0.calls result.0.held (view result.0.chair) }
+{
+    let mut user = user;
+    let at = M::fatomic(rt, alloc, files, &mut user, requests);
+    (user, at)
+}
+
+// A step of a session.
 fn take_step<M: Calls, R: Wait>(
     rt: &R,
     alloc: Global,
@@ -104,18 +124,19 @@ fn take_step<M: Calls, R: Wait>(
     ensures ready { M.is_ready files.now.geometry result.0.queue result.0.calls result.0.held (view result.0.chair) }
 {
     match step {
-        Step::Checkpoint => make_checkpoint(rt, alloc, files, user),
-        Step::Group(requests) => commit(rt, alloc, files, user, requests),
+        Step::Checkpoint => checkpoint(rt, alloc, files, user),
+        Step::Fsync(requests) => fsync(rt, alloc, files, user, requests),
+        Step::Fatomic(requests) => fatomic(rt, alloc, files, user, requests),
     }
 }
 
-// The commit of the second session, once a checkpoint of the first one is held.
-fn commit_beside<M: Calls, R: Wait>(
+// The step of the second session, once the first one is held.
+fn step_beside<M: Calls, R: Wait>(
     rt: &R,
     alloc: Global,
     files: &FileSystem<M>,
     user: User<M>,
-    requests: &[Request],
+    step: Step,
     hold: &Hold,
 ) -> (User<M>, Option<TxNo>)
     requires desk { AtDesk files.now.desk user.chair }
@@ -124,7 +145,7 @@ fn commit_beside<M: Calls, R: Wait>(
     ensures ready { M.is_ready files.now.geometry result.0.queue result.0.calls result.0.held (view result.0.chair) }
 {
     hold.begin();
-    let (user, at) = commit(rt, alloc, files, user, requests);
+    let (user, at) = take_step(rt, alloc, files, user, step);
     hold.tell(&at);
     (user, at)
 }
@@ -158,7 +179,7 @@ fn fork<
         step,
         beside,
     } = course;
-    let (first, before) = commit(rt, alloc, files, first, before);
+    let (first, before) = fsync(rt, alloc, files, first, before);
     let ((first, step), (second, beside)) = join(
         rt,
         move || -> (User<M>, Option<TxNo>)
@@ -172,7 +193,7 @@ fn fork<
                 × M.is_ready files.now.geometry second.queue second.calls second.held (view second.chair) }
             ensures { AtDesk files.entry.now.desk result.0.chair
                 × M.is_ready files.entry.now.geometry result.0.queue result.0.calls result.0.held (view result.0.chair) }
-        { commit_beside(rt, alloc, files, second, beside, hold) },
+        { step_beside(rt, alloc, files, second, beside, hold) },
     );
     Called {
         first,
@@ -185,8 +206,8 @@ fn fork<
     }
 }
 
-/// The first session does its group and then its step, by which it makes a checkpoint. The second one does
-/// its group while the checkpoint is held.
+/// The first session does its group and then its step. The second one does its step while a call on a port is
+/// held in that.
 pub fn call_both<P: Port + Drop + Send, R: Threads + Wait + Sync>(
     rt: &R,
     alloc: Global,

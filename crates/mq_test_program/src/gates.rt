@@ -1,6 +1,6 @@
 // A gate that holds a session until another one has come to a point.
-use crate::hold::comes;
 use mq_calls::{Gate, Point};
+use mq_test_calls::comes;
 use std::sync::atomic::AtomicBool;
 use std::sync::atomic::Ordering::SeqCst;
 

@@ -1,0 +1,28 @@
+use Rattle.std.proofs.Common.{◌≡◌, ◌∙◌, None, ap, map, sym, subst}
+use Rattle.mq_blocks.specs.declared.geometry.Geometry.{Geometry}
+use Rattle.mq_drive.specs.Emu.{emu_state}
+use Rattle.mq_drive.specs.Seats.{name_of}
+use Rattle.mq_recover.specs.Drives.{DriveState, IsQuiescentDrive, drive, drive_of}
+use Rattle.mq_recover.specs.Recovery.{IsStartDrive}
+use Rattle.mq_test_calls.proofs.Lists.{map_twice}
+use Rattle.mq_test_calls.proofs.drive.start_watched.Goals as goal
+
+pub returns-clause-still : goal.returns-clause-still
+returns-clause-still g c =
+    let x = c.requires.recovery.0 in
+    let r = c.requires.recovery.1 in
+    let queues : map (λ w. emu_state w.port) c.in_ok-held.held.queues.items ≡ map emu_state c.in_ok-ports.ports.queues.items = sym (map_twice (λ w. w.port) emu_state c.in_ok-held.held.queues.items) ∙ ap (map emu_state) c.in_ok-held.ensures.queues in
+    let root : emu_state c.in_ok-held.held.root.port ≡ emu_state c.in_ok-ports.ports.root = ap emu_state c.in_ok-held.ensures.root in
+    subst (λ (d : DriveState). IsQuiescentDrive c.args.left.image.geometry d) (λ i. drive (sym queues i) (sym root i))
+    (subst (λ (z : Geometry). IsQuiescentDrive z (drive_of emu_state c.in_ok-ports.ports)) (sym r.geometry)
+    (c.a_recovered_image_starts.ensures.still x c.args.left (name_of c.args.fuse.now) None c.in_ok-ports.ports r c.in_ok-ports.ensures.drive))
+
+pub returns-clause-start : goal.returns-clause-start
+returns-clause-start g c =
+    let x = c.requires.recovery.0 in
+    let r = c.requires.recovery.1 in
+    let queues : map (λ w. emu_state w.port) c.in_ok-held.held.queues.items ≡ map emu_state c.in_ok-ports.ports.queues.items = sym (map_twice (λ w. w.port) emu_state c.in_ok-held.held.queues.items) ∙ ap (map emu_state) c.in_ok-held.ensures.queues in
+    let root : emu_state c.in_ok-held.held.root.port ≡ emu_state c.in_ok-ports.ports.root = ap emu_state c.in_ok-held.ensures.root in
+    subst (λ (d : DriveState). IsStartDrive c.args.left.image.geometry d) (λ i. drive (sym queues i) (sym root i))
+    (subst (λ (z : Geometry). IsStartDrive z (drive_of emu_state c.in_ok-ports.ports)) (sym r.geometry)
+    (c.a_recovered_image_starts.ensures.start x c.args.left (name_of c.args.fuse.now) None c.in_ok-ports.ports r c.in_ok-ports.ensures.drive))
