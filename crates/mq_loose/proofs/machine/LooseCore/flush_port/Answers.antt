@@ -1,0 +1,89 @@
+use Rattle.std.proofs.Common.{◌≡◌, ℕ, ◌<◌, ◌^◌, List, length, reverse, set, sym, ap, subst, ◌∙◌, arith}
+use Rattle.std.proofs.lemmas.List.{length-set}
+use Rattle.mq_blocks.specs.Drive.{PortState, staged_end, after_flush}
+use Rattle.mq_ledger.specs.Plain.{plain}
+use Rattle.mq_ledger.specs.Records.{Ledger}
+use Rattle.mq_ledger.specs.State.{State, port_at}
+use Rattle.mq_loose.specs.Guards.{side_known}
+use Rattle.mq_core.specs.Events.{flush, us_of}
+use Rattle.mq_core.specs.Settled.{IsSettled, settled}
+use Rattle.mq_core.specs.View.{state_with}
+use Rattle.mq_loose.specs.Rows.{loose_rows}
+use Rattle.mq_loose.specs.declared.machine.rows.LooseRow.{LooseRow}
+use Rattle.mq_loose.specs.View.{no_marks, IsHeld, state_of}
+use Rattle.mq_loose.proofs.Lifts.{same_port, set_port}
+use Rattle.mq_loose.proofs.Within.{staged_small}
+use Rattle.mq_loose.proofs.Fronts.{flush_settled, flush_held}
+use Rattle.mq_loose.proofs.machine.LooseCore.flush_port.Goals as goal
+use Rattle.mq_loose.proofs.machine.LooseCore.flush_port.Goals.{After-queue, After-index_mut, After-flush, After-deref}
+
+held_along : (l k : Ledger) (ps qs : List PortState) (root : PortState) (marks writing acknowledged : List ℕ) → l ≡ k → ps ≡ qs → IsHeld l.front (state_with l ps root marks writing acknowledged) → IsHeld k.front (state_with k qs root marks writing acknowledged)
+held_along l k ps qs root marks writing acknowledged a b h = subst (λ (m : Ledger). IsHeld m.front (state_with m qs root marks writing acknowledged)) a (subst (λ rs. IsHeld l.front (state_with l rs root marks writing acknowledged)) b h)
+
+own : (c : After-queue) → c.args.queue < c.self.inside.ledger.geometry.queues
+own c = subst (λ (s : State). c.args.queue < s.geometry.queues) (sym c.self.view_is) c.requires
+
+within : (c : After-queue) → c.queue.inside.0 < length c.self.inside.ports.items
+within c = omega (arith, own c, c.self.invariant.held.facts.ports, c.queue.view_is)
+
+is_port : (c : After-index_mut) → c.index_mut.result.now ≡ port_at c.self.inside.ports.items c.args.queue
+is_port c = same_port c.self.inside.ports.items c.args.queue c.queue.inside.0 c.index_mut.result.now (within (goal.at.After-index_mut c).After-queue) c.queue.view_is c.index_mut.ensures.value
+
+pub flush-requires-clause-ring : goal.flush-requires-clause-ring
+flush-requires-clause-ring c =
+    let f = c.self.invariant.held.facts in
+    let port = (f.sides c.args.queue (own (goal.at.flush-requires-clause-ring c).After-queue)).port in
+    subst (λ (p : PortState). length p.flushed ≡ length p.staged) (sym (is_port c)) (port.flushed ∙ sym port.staged)
+
+pub flush-requires-clause-room : goal.flush-requires-clause-room
+flush-requires-clause-room c =
+    let s = state_of c.self.inside in
+    let q = c.args.queue in
+    let f = c.self.invariant.held.facts in
+    subst (λ (p : PortState). staged_end p < 2 ^ 64) (sym (is_port c)) (staged_small (side_known plain s) q (us_of s q) (port_at s.ports q) f.log (f.sides q (own (goal.at.flush-requires-clause-room c).After-queue)))
+
+ports_are : (c : After-flush) → set c.self.inside.ports.items c.queue.inside.0 c.flush.new.self ≡ set c.self.inside.ports.items c.args.queue (after_flush (port_at c.self.inside.ports.items c.args.queue))
+ports_are c =
+    let inside : c.queue.inside.0 < length c.self.inside.ports.items = within (goal.at.After-flush c).After-queue in
+    set_port after_flush c.self.inside.ports.items c.args.queue c.queue.inside.0 c.index_mut.result.now c.flush.new.self inside c.queue.view_is c.index_mut.ensures.value c.flush.ensures
+
+seen : (c : After-deref) → c.deref.result.now ≡ set c.self.inside.ports.items c.args.queue (after_flush (port_at c.self.inside.ports.items c.args.queue))
+seen c = c.deref.ensures.value ∙ ports_are (goal.at.After-deref c).After-flush
+
+pub settle_all-requires-clause-ports : goal.settle_all-requires-clause-ports
+settle_all-requires-clause-ports c = ap length c.deref.ensures.value ∙ length-set c.self.inside.ports.items c.queue.inside.0 c.flush.new.self ∙ c.self.invariant.held.facts.ports
+
+pub settle_all-requires-clause-done : goal.settle_all-requires-clause-done
+settle_all-requires-clause-done c =
+    let i = c.self.inside in
+    let s = state_of i in
+    subst (λ ports. IsSettled i.ledger ports) (sym (seen c))
+    (flush_settled i.ledger i.ports.items i.root s.marks s.writing s.acknowledged c.args.queue (own (goal.at.settle_all-requires-clause-done c).After-queue) c.self.invariant.held)
+
+-- the ledger has another front, and no other field
+front_moved : (l k : Ledger) (ports : List PortState) → k ≡ settled ports l → no_marks k ≡ no_marks l
+front_moved l k ports is = ap no_marks is
+
+rows_kept : (l k : Ledger) (ports : List PortState) (rows : List LooseRow) → k ≡ settled ports l → rows ≡ reverse (loose_rows l.base l.starts l.history) → rows ≡ reverse (loose_rows k.base k.starts k.history)
+rows_kept l k ports rows is same = same ∙ sym (ap (λ (m : Ledger). reverse (loose_rows m.base m.starts m.history)) is)
+
+pub invariant_of-self : goal.invariant_of-self
+invariant_of-self c =
+    let i = c.self.inside in
+    let s = state_of i in
+    let ports = ports_are (goal.at.invariant_of-self c).After-flush in
+    let ledger = c.settle_all.ensures ∙ ap (λ ps. settled ps i.ledger) (seen (goal.at.invariant_of-self c).After-deref) in
+    let held = held_along _ _ _ _ i.root s.marks s.writing s.acknowledged (sym ledger) (sym ports) (flush_held i.ledger i.ports.items i.root s.marks s.writing s.acknowledged c.args.queue (own (goal.at.invariant_of-self c).After-queue) c.self.invariant.held) in
+    record {
+      held = subst (λ marks. IsHeld c.settle_all.new.ledger.front (state_with c.settle_all.new.ledger (set i.ports.items c.queue.inside.0 c.flush.new.self) i.root marks s.writing s.acknowledged)) (sym (front_moved i.ledger c.settle_all.new.ledger _ ledger)) held;
+      rows = rows_kept i.ledger c.settle_all.new.ledger _ i.rows.items ledger c.self.invariant.rows;
+    }
+
+pub returns : goal.returns
+returns c =
+    let i = c.self.inside in
+    let s = state_of i in
+    let ports = ports_are (goal.at.returns c).After-flush in
+    let ledger = c.settle_all.ensures ∙ ap (λ ps. settled ps i.ledger) (seen (goal.at.returns c).After-deref) in
+    let marks = front_moved i.ledger c.settle_all.new.ledger _ ledger in
+    (λ j. state_with (ledger j) (ports j) i.root (marks j) s.writing s.acknowledged) ∙ ap (flush c.args.queue) c.self.view_is

@@ -1,0 +1,4 @@
+pub mod Rising
+pub mod Dependence
+pub mod Form
+pub mod Standing
