@@ -1,0 +1,11 @@
+pub mod RecordsBytes
+pub mod BucketsReading
+pub mod BucketsWrong
+pub mod BucketsNext
+pub mod BucketsChecked
+pub mod KeysOrder
+pub mod Spots
+pub mod EditsMoved
+pub mod RecordsEdited
+pub mod StoreLaws
+pub mod StepsTaken
