@@ -1,0 +1,16 @@
+pub mod Replicas
+pub mod Updates
+pub mod Contents
+pub mod Images
+pub mod Certain
+pub mod Opened
+pub mod Apart
+pub mod Applying
+pub mod Committing
+pub mod Held
+pub mod Plans
+pub mod Offers
+pub mod Opening
+pub mod Feeding
+pub mod Views
+pub mod World
