@@ -1,6 +1,6 @@
 -- A base may be stored exactly where no posted command writes a block that is due, and each such block
 -- holds at home what is due there.
-use Rattle.std.proofs.Common.{◌≡◌, ℕ, suc, zero, ◌-◌, ◌*◌, ◌%◌, ◌<◌, ◌≤◌, true, false, List, [], ◌∷◌, length, Option, Some, None, sym, refl, ap, subst, ◌∙◌, inl, inr, arith, is_some, eqb}
+use Rattle.std.proofs.Common.{◌≡◌, ℕ, suc, zero, ◌-◌, ◌*◌, ◌%◌, ◌<◌, ◌≤◌, true, false, Bool, List, [], ◌∷◌, length, Option, Some, None, sym, refl, ap, subst, ◌∙◌, inl, inr, arith, is_some, eqb}
 use Rattle.std.proofs.lemmas.Bool.{cases_Bool, cases_lt, lt-ltb, le-ltb, le-leb, lt-leb, eq-eqb, false≢true}
 use Rattle.std.proofs.lemmas.Nat.{mod_below}
 use Rattle.mq_blocks.specs.Drive.{PortState, IsApartFrom, index_of}
@@ -8,11 +8,11 @@ use Rattle.mq_blocks.specs.Geometry.{homes_of, zone_of, home_lba, area_lba}
 use Rattle.mq_blocks.specs.declared.command.Command.{Command}
 use Rattle.mq_blocks.specs.declared.geometry.Geometry.{Geometry}
 use Rattle.mq_ledger.specs.History.{map_after, last, upto}
-use Rattle.mq_ledger.specs.Items.{Target, AtPlace, AtHome, lba_of, command_of, item_at}
+use Rattle.mq_ledger.specs.Items.{Entries, Target, AtPlace, AtHome, lba_of, command_of, item_at}
 use Rattle.mq_ledger.specs.KnownJournal.{KnownJournal}
 use Rattle.mq_ledger.specs.Plain.{plain}
 use Rattle.mq_ledger.specs.Sides.{AreOwn, Certainly, holds_count, home_index}
-use Rattle.mq_ledger.specs.State.{State, Facts, front_of, from_at, known_of, port_at, port_of, start_map}
+use Rattle.mq_ledger.specs.State.{State, front_of, from_at, port_at, port_of, start_map}
 use Rattle.mq_ledger.specs.declared.tx.Tx.{Tx}
 use Rattle.mq_ledger.proofs.History.{value_settled, upto-upto}
 use Rattle.mq_core.specs.Bases.{due_at, home_of, is_due, writes_none, post_none, Holds}
@@ -22,6 +22,7 @@ use Rattle.mq_core.proofs.EventsPorts.{index-place, index-zone, index-root, zone
 use Rattle.mq_core.proofs.EventsSideCommands.{IsLate, posted_late, late_direct}
 use Rattle.mq_core.proofs.KnownJournalSources.{direct-zone}
 use Rattle.mq_core.proofs.StateEvents.{zone-queue}
+use Rattle.mq_core.proofs.StateSides.{HasSides, known_with}
 
 -- a block that is due
 pub record IsDue (s : State) (b x : ℕ) (content : List ℕ) : Type 0 where
@@ -68,11 +69,11 @@ none_with s b n (c ∷ cs) none held = elim (cases_Bool (is_due s b (home_of s.g
   ])
 ]
 
-none_own : (s : State) (b q from : ℕ) (txs : List Tx) (cs : List Command) → AreOwn plain.form s.geometry q from txs cs → ((n : ℕ) → holds_count n cs ≡ true → is_due s b (home_of s.geometry (command_of plain.form s.geometry q n (item_at from txs n))) ≡ false) → writes_none s b cs ≡ true
-none_own s b q from txs [] own each = refl
-none_own s b q from txs (c ∷ cs) own each =
+none_own : (entries : Entries) (s : State) (b q from : ℕ) (txs : List Tx) (cs : List Command) → AreOwn entries.form s.geometry q from txs cs → ((n : ℕ) → holds_count n cs ≡ true → is_due s b (home_of s.geometry (command_of entries.form s.geometry q n (item_at from txs n))) ≡ false) → writes_none s b cs ≡ true
+none_own entries s b q from txs [] own each = refl
+none_own entries s b q from txs (c ∷ cs) own each =
     let here : is_due s b (home_of s.geometry c) ≡ false = ap (λ (d : Command). is_due s b (home_of s.geometry d)) own.0 ∙ each c.count (rw (eq-eqb c.count c.count refl) refl) in
-    rw here (none_own s b q from txs cs own.1 (λ n held. each n (behind n held)))
+    rw here (none_own entries s b q from txs cs own.1 (λ n held. each n (behind n held)))
   where
     behind : (n : ℕ) → holds_count n cs ≡ true → holds_count n (c ∷ cs) ≡ true
     behind n held = elim (cases_Bool (eqb c.count n)) [
@@ -96,9 +97,9 @@ pub post_none-each : (s : State) (b : ℕ) (ports : List PortState) → ((q : �
 post_none-each s b [] each = refl
 post_none-each s b (p ∷ ps) each = rw (each zero (omega arith)) (post_none-each s b ps (λ q inside. each (suc q) (omega arith)))
 
-module _ (s : State) (f : Facts plain s) (b : ℕ) (reached : b ≤ front_of s) where
+module _ {entries : Entries} {due : ℕ → ℕ → Bool} (s : State) (f : HasSides entries due s) (b : ℕ) (reached : b ≤ front_of s) where
   abbrev k : KnownJournal
-  k = known_of plain s
+  k = known_with entries due s
 
   -- what a late entry of a queue writes to the home block x
   writes_home : (q n x : ℕ) → (own : q < s.geometry.queues) → IsLate k q (us_of s q) (port_at s.ports q) f.log (f.sides q own) n → zone_of s.geometry x ≡ Some q → index_of (port_at s.ports q) (lba_of s.geometry q (item_at (from_at s.starts q) (us_of s q) n).target) ≡ home_index s.geometry x
@@ -143,10 +144,10 @@ module _ (s : State) (f : Facts plain s) (b : ℕ) (reached : b ≤ front_of s) 
           record {
             certain = record {
               certain = rw at at h.certain;
-              apart = apart_own plain.form p s.geometry q (from_at s.starts q) (us_of s q) (home_index s.geometry x) p.posted side.commands.posted (λ n held same.
+              apart = apart_own entries.form p s.geometry q (from_at s.starts q) (us_of s q) (home_index s.geometry x) p.posted side.commands.posted (λ n held same.
                   let late = posted_late k q (us_of s q) p f.log side n held in
                   let to = writes_home q n x own late.0 zone same in
-                  let is : home_of s.geometry (command_with n p.posted) ≡ Some x = home-home s.geometry x (command_with n p.posted) (ap (λ (c : Command). c.lba) (own_with plain.form s.geometry q (from_at s.starts q) n (us_of s q) p.posted side.commands.posted held) ∙ ap (lba_of s.geometry q) to) in
+                  let is : home_of s.geometry (command_with n p.posted) ≡ Some x = home-home s.geometry x (command_with n p.posted) (ap (λ (c : Command). c.lba) (own_with entries.form s.geometry q (from_at s.starts q) n (us_of s q) p.posted side.commands.posted held) ∙ ap (lba_of s.geometry q) to) in
                   let not = none_with s b n p.posted clear held in
                   false≢true (sym not ∙ ap (is_due s b) is ∙ ap is_some due));
             };
@@ -190,17 +191,17 @@ module _ (s : State) (f : Facts plain s) (b : ℕ) (reached : b ≤ front_of s) 
       let own : q < s.geometry.queues = omega (arith, inside, f.ports) in
       let side = f.sides q own in
       let p = port_at s.ports q in
-      none_own s b q (from_at s.starts q) (us_of s q) p.posted side.commands.posted (λ n held. not_due q own n held))
+      none_own entries s b q (from_at s.starts q) (us_of s q) p.posted side.commands.posted (λ n held. not_due q own n held))
     where
-      not_due : (q : ℕ) (own : q < s.geometry.queues) (n : ℕ) → holds_count n (port_at s.ports q).posted ≡ true → is_due s b (home_of s.geometry (command_of plain.form s.geometry q n (item_at (from_at s.starts q) (us_of s q) n))) ≡ false
+      not_due : (q : ℕ) (own : q < s.geometry.queues) (n : ℕ) → holds_count n (port_at s.ports q).posted ≡ true → is_due s b (home_of s.geometry (command_of entries.form s.geometry q n (item_at (from_at s.starts q) (us_of s q) n))) ≡ false
       not_due q own n held = go (item_at (from_at s.starts q) (us_of s q) n).target refl
         where
           p : PortState
           p = port_at s.ports q
 
-          go : (target : Target) → (item_at (from_at s.starts q) (us_of s q) n).target ≡ target → is_due s b (home_of s.geometry (command_of plain.form s.geometry q n (item_at (from_at s.starts q) (us_of s q) n))) ≡ false
-          go (AtPlace r) e = ap (is_due s b) (home-place s.geometry q r (command_of plain.form s.geometry q n (item_at (from_at s.starts q) (us_of s q) n)) own (ap (lba_of s.geometry q) e))
-          go (AtHome y) e = ap (is_due s b) (home-home s.geometry y (command_of plain.form s.geometry q n (item_at (from_at s.starts q) (us_of s q) n)) (ap (lba_of s.geometry q) e)) ∙ none (due_at s b y) refl
+          go : (target : Target) → (item_at (from_at s.starts q) (us_of s q) n).target ≡ target → is_due s b (home_of s.geometry (command_of entries.form s.geometry q n (item_at (from_at s.starts q) (us_of s q) n))) ≡ false
+          go (AtPlace r) e = ap (is_due s b) (home-place s.geometry q r (command_of entries.form s.geometry q n (item_at (from_at s.starts q) (us_of s q) n)) own (ap (lba_of s.geometry q) e))
+          go (AtHome y) e = ap (is_due s b) (home-home s.geometry y (command_of entries.form s.geometry q n (item_at (from_at s.starts q) (us_of s q) n)) (ap (lba_of s.geometry q) e)) ∙ none (due_at s b y) refl
             where
               none : (o : Option (List ℕ)) → due_at s b y ≡ o → is_some o ≡ false
               none None due = refl
@@ -209,5 +210,5 @@ module _ (s : State) (f : Facts plain s) (b : ℕ) (reached : b ≤ front_of s) 
                   let late = posted_late k q (us_of s q) p f.log side n held in
                   let z = (direct-zone k q (us_of s q) n y f.log (late_direct k q (us_of s q) p f.log side n y late.0 e)).0 in
                   let kept : Certainly p (home_index s.geometry y) content = subst (λ w. Certainly (port_of s w) (home_index s.geometry y) content) z (due_kept may y content due) in
-                  let lba : (command_with n p.posted).lba ≡ home_lba s.geometry y = ap (λ (c : Command). c.lba) (own_with plain.form s.geometry q (from_at s.starts q) n (us_of s q) p.posted side.commands.posted held) ∙ ap (lba_of s.geometry q) e in
+                  let lba : (command_with n p.posted).lba ≡ home_lba s.geometry y = ap (λ (c : Command). c.lba) (own_with entries.form s.geometry q (from_at s.starts q) n (us_of s q) p.posted side.commands.posted held) ∙ ap (lba_of s.geometry q) e in
                   absurd (apart_with p (home_index s.geometry y) n p.posted kept.certain.apart held (ap (index_of p) lba ∙ (index-zone s.geometry q y p side.port z).0))

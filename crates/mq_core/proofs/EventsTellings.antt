@@ -1,5 +1,5 @@
 -- What the machine answers to events on numbers and home blocks.
-use Rattle.std.proofs.Common.{◌≡◌, ℕ, ◌+◌, ◌<◌, ◌&&◌, ◌||◌, Bool, true, false, not, List, [], ◌∷◌, ◌++◌, length, filter, reverse, Ok, sym, refl, ap, subst, ◌∙◌, inl, inr, arith, eqb, nat_lt}
+use Rattle.std.proofs.Common.{◌≡◌, ℕ, ◌+◌, ◌<◌, ◌&&◌, ◌||◌, Bool, true, false, not, List, [], ◌∷◌, ◌++◌, length, filter, reverse, sym, refl, ap, subst, ◌∙◌, inl, inr, arith, eqb, nat_lt}
 use Rattle.std.proofs.lemmas.Bool.{cases_Bool, eq-eqb, ne_eqb, leb-false, lt-leb, lt-ltb}
 use Rattle.std.proofs.lemmas.List.{reverse-append, append-nil}
 use Rattle.std.proofs.lemmas.List.Elements.{filter-append}
@@ -14,19 +14,9 @@ use Rattle.mq_ledger.specs.State.{State, front_of, known_of, from_at, port_at}
 use Rattle.mq_ledger.specs.declared.tx.Tx.{Tx}
 use Rattle.mq_ledger.proofs.History.{last-changed, last-same, last_le}
 use Rattle.mq_core.specs.Events.{MayClear, HasRoom, us_of, draw, clear, unchanged_by, without}
-use Rattle.mq_core.specs.Machine.{Event, Draw, IsAllowed, happens}
+use Rattle.mq_core.specs.Machine.{Draw, IsAllowed}
 use Rattle.mq_core.specs.View.{IsHeld, state_with}
 use Rattle.mq_core.proofs.KnownJournalGrowth.{front_drawn}
-use Rattle.mq_core.proofs.MachineLifts.{Told, idle_stays}
-use Rattle.mq_core.proofs.MachineFacts.{keeps}
-
--- an event that was allowed has happened, and left the front
-pub happened : (v : Event) (front : ℕ) (s new : State) → IsHeld front s → IsAllowed plain v s → new ≡ happens plain v s → front_of (happens plain v s) ≡ front_of s → Told v front s new (Ok tt)
-happened v front s new held may is stays =
-    record {
-      held = subst (λ t. IsHeld front t) (sym is) (record { facts = keeps plain v s held.facts may; front_is = held.front_is ∙ sym stays; idle = idle_stays v s ∙ held.idle });
-      answer = (may, is);
-    }
 
 pub reverse_push : {A : Type 0} (xs : List A) (x : A) → reverse (xs ++ x ∷ []) ≡ x ∷ reverse xs
 reverse_push xs x = reverse-append xs (x ∷ [])

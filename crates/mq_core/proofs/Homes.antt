@@ -7,13 +7,12 @@ use Rattle.mq_blocks.specs.Blocks.{block_at, content}
 use Rattle.mq_blocks.specs.Drive.{PortState, index_of}
 use Rattle.mq_blocks.specs.Geometry.{homes_of, zone_of, home_lba}
 use Rattle.mq_blocks.specs.Journal.{is_among}
-use Rattle.mq_blocks.specs.Ports.{IsPort}
 use Rattle.mq_blocks.specs.declared.command.HomeWrite.{HomeWrite}
 use Rattle.mq_blocks.specs.declared.geometry.Geometry.{Geometry}
-use Rattle.mq_ledger.specs.History.{blocks_of, last, upto}
+use Rattle.mq_ledger.specs.History.{blocks_of, last, upto, IsAt}
 use Rattle.mq_ledger.specs.Items.{item_at}
 use Rattle.mq_ledger.specs.KnownJournal.{KnownJournal, LogOk, front}
-use Rattle.mq_ledger.specs.Sides.{Certainly, IsDone, SideOk, RootOk, home_index, place_index}
+use Rattle.mq_ledger.specs.Sides.{Certainly, IsDone, SideOk, RootOk, home_index, home_index_in}
 use Rattle.mq_ledger.specs.declared.tx.Tx.{Tx}
 use Rattle.mq_blocks.proofs.JournalAmong.{apart-not_among}
 use Rattle.mq_blocks.proofs.Ports.{parts_of, port-along}
@@ -35,21 +34,41 @@ pub record AreElse (p : PortState) (at : ℕ) (blocks : List (Option (List ℕ))
   pub blocks_same : (n : ℕ) → n ≢ at → block_at blocks n ≡ block_at p.blocks n
   pub certain_same : (n : ℕ) → n ≢ at → get_or certain n false ≡ get_or p.certain n false
 
-certainly_else : (p : PortState) (at n : ℕ) (v : List ℕ) (blocks : List (Option (List ℕ))) (certain : List Bool) (begun : List HomeWrite) (begins : ℕ) → AreElse p at blocks certain → n ≢ at → Certainly p n v → Certainly (written_to p blocks certain begun begins) n v
+pub certainly_else : (p : PortState) (at n : ℕ) (v : List ℕ) (blocks : List (Option (List ℕ))) (certain : List Bool) (begun : List HomeWrite) (begins : ℕ) → AreElse p at blocks certain → n ≢ at → Certainly p n v → Certainly (written_to p blocks certain begun begins) n v
 certainly_else p at n v blocks certain begun begins els other c =
     record {
       certain = record { certain = els.certain_same n other ∙ c.certain.certain; apart = apart_along p (written_to p blocks certain begun begins) n p.posted (λ lba. refl) c.certain.apart };
       is = els.blocks_same n other ∙ c.is;
     }
 
-pub side_written : (k : KnownJournal) (q : ℕ) (txs : List Tx) (p : PortState) (x : ℕ) (blocks : List (Option (List ℕ))) (certain : List Bool) (begun : List HomeWrite) (begins : ℕ) → LogOk k → SideOk k q txs p → zone_of k.geometry x ≡ Some q → IsLoggedLast k x
+-- two blocks of the root
+pub root-apart : (g : Geometry) (x y : ℕ) → zone_of g x ≡ None → zone_of g y ≡ None → home_index g y ≡ home_index g x → y ≡ x
+root-apart g x y zx zy same = sym (ap (λ w. home_index_in g w y) zy) ∙ (same ∙ ap (λ w. home_index_in g w x) zx)
+
+-- nothing that a port keeps to needs the content of this block at home
+pub record IsFree (k : KnownJournal) (x : ℕ) : Type 0 where
+  pub direct : (t : Tx) (ts : List Tx) → IsAt t ts k.history → is_among x (blocks_of t.direct) ≡ true → last k.base (upto (front k) k.history) x ≤ t.number → ⊥
+  pub due : (v : ℕ) → k.due x v ≡ true → last k.base (upto (front k) k.history) x ≤ v → ⊥
+
+pub free_logged : (k : KnownJournal) (x : ℕ) → LogOk k → IsLoggedLast k x → IsFree k x
+free_logged k x log u =
+    let settled = last_settled k.base (front k) k.history x log.numbers u.high in
+    record {
+      direct = λ t ts at among m.
+          let most = last_at k.base t ts k.history x log.numbers at (changes_direct t x among) in
+          let lg = u.logged t ts at (omega (arith, settled, m, most)) in
+          let form = (log.each t ts at).0 in
+          false≢true (sym (apart-not_among (blocks_of t.logged) (blocks_of t.direct) x form.apart lg) ∙ among);
+      due = λ v due m. (let above = u.due v due in absurd (omega (arith, settled, m, above)));
+    }
+
+pub side_free : (k : KnownJournal) (q : ℕ) (txs : List Tx) (p : PortState) (x : ℕ) (blocks : List (Option (List ℕ))) (certain : List Bool) (begun : List HomeWrite) (begins : ℕ) → LogOk k → SideOk k q txs p → zone_of k.geometry x ≡ Some q → IsFree k x
     → AreElse p (home_index k.geometry x) blocks certain → SideOk k q txs (written_to p blocks certain begun begins)
-side_written k q txs p x blocks certain begun begins log s zone u els =
+side_free k q txs p x blocks certain begun begins log s zone free els =
     let o = s.order in
     let kept : (n : ℕ) (v : List ℕ) → n ≢ home_index k.geometry x → Certainly p n v → Certainly (written_to p blocks certain begun begins) n v = λ n v other c.
     certainly_else p (home_index k.geometry x) n v blocks certain begun begins els other c in
     let before : (c : ℕ) → IsDone (written_to p blocks certain begun begins) c → IsDone p c = λ c d. record { rung = d.rung; posted = d.posted; failed = d.failed } in
-    let settled = last_settled k.base (front k) k.history x log.numbers u.high in
     record {
       queue = s.queue;
       part = s.part;
@@ -84,36 +103,35 @@ side_written k q txs p x blocks certain begun begins log s zone u els =
           let among : is_among x (blocks_of b.t.direct) ≡ true = subst (λ z. is_among z (blocks_of b.t.direct) ≡ true) is b.among in
           let m' : last k.base (upto (front k) k.history) x ≤ (item_at (k.from q) txs c).number = subst (λ z. last k.base (upto (front k) k.history) z ≤ (item_at (k.from q) txs c).number) is m in
           let number = b.number in
-          let most = last_at k.base b.t b.ts k.history x log.numbers b.at (changes_direct b.t x among) in
-          let lg = u.logged b.t b.ts b.at (omega (arith, settled, m', number, most)) in
-          let form = (log.each b.t b.ts b.at).0 in
-          false≢true (sym (apart-not_among (blocks_of b.t.logged) (blocks_of b.t.direct) x form.apart lg) ∙ among)) (s.direct c y low (before c d) target m);
+          free.direct b.t b.ts b.at among (omega (arith, m', number))) (s.direct c y low (before c d) target m);
       homes = λ y v block inside z due there m.
           kept _ _ (λ e.
           let is : y ≡ x = zone-apart k.geometry q y x z zone e in
           let m' : last k.base (upto (front k) k.history) x ≤ v = subst (λ w. last k.base (upto (front k) k.history) w ≤ v) is m in
-          let above = u.due v (subst (λ w. k.due w v ≡ true) is due) in
-          absurd (omega (arith, settled, m', above))) (s.homes y v block inside z due there m);
+          free.due v (subst (λ w. k.due w v ≡ true) is due) m') (s.homes y v block inside z due there m);
     }
 
-pub root_written : (k : KnownJournal) (p : PortState) (x : ℕ) (blocks : List (Option (List ℕ))) (certain : List Bool) (begun : List HomeWrite) (begins : ℕ) → LogOk k → RootOk k p → zone_of k.geometry x ≡ None → x < homes_of k.geometry → IsLoggedLast k x
+pub side_written : (k : KnownJournal) (q : ℕ) (txs : List Tx) (p : PortState) (x : ℕ) (blocks : List (Option (List ℕ))) (certain : List Bool) (begun : List HomeWrite) (begins : ℕ) → LogOk k → SideOk k q txs p → zone_of k.geometry x ≡ Some q → IsLoggedLast k x
+    → AreElse p (home_index k.geometry x) blocks certain → SideOk k q txs (written_to p blocks certain begun begins)
+side_written k q txs p x blocks certain begun begins log s zone u els = side_free k q txs p x blocks certain begun begins log s zone (free_logged k x log u) els
+
+pub root_free : (k : KnownJournal) (p : PortState) (x : ℕ) (blocks : List (Option (List ℕ))) (certain : List Bool) (begun : List HomeWrite) (begins : ℕ) → RootOk k p → zone_of k.geometry x ≡ None → IsFree k x
     → AreElse p (home_index k.geometry x) blocks certain → RootOk k (written_to p blocks certain begun begins)
-root_written k p x blocks certain begun begins log r zone block u els =
-    let settled = last_settled k.base (front k) k.history x log.numbers u.high in
+root_free k p x blocks certain begun begins r zone free els =
     record {
       port = port-along r.port (λ i. record (parts_of p) { blocks = els.blocks_len i; certain = els.certain_len i });
       posted = r.posted;
       bases = r.bases;
-      homes = λ y v content inside z due there m.
+      homes = λ y v block inside z due there m.
           certainly_else p (home_index k.geometry x) _ _ blocks certain begun begins els (λ e.
-          let is : y ≡ x = root-apart y z e in
+          let is : y ≡ x = root-apart k.geometry x y zone z e in
           let m' : last k.base (upto (front k) k.history) x ≤ v = subst (λ w. last k.base (upto (front k) k.history) w ≤ v) is m in
-          let above = u.due v (subst (λ w. k.due w v ≡ true) is due) in
-          absurd (omega (arith, settled, m', above))) (r.homes y v content inside z due there m);
+          free.due v (subst (λ w. k.due w v ≡ true) is due) m') (r.homes y v block inside z due there m);
     }
-  where
-    root-apart : (y : ℕ) → zone_of k.geometry y ≡ None → home_index k.geometry y ≡ home_index k.geometry x → y ≡ x
-    root-apart y z e = sym (ap (λ w. Rattle.mq_ledger.specs.Sides.home_index_in k.geometry w y) z) ∙ e ∙ ap (λ w. Rattle.mq_ledger.specs.Sides.home_index_in k.geometry w x) zone
+
+pub root_written : (k : KnownJournal) (p : PortState) (x : ℕ) (blocks : List (Option (List ℕ))) (certain : List Bool) (begun : List HomeWrite) (begins : ℕ) → LogOk k → RootOk k p → zone_of k.geometry x ≡ None → x < homes_of k.geometry → IsLoggedLast k x
+    → AreElse p (home_index k.geometry x) blocks certain → RootOk k (written_to p blocks certain begun begins)
+root_written k p x blocks certain begun begins log r zone block u els = root_free k p x blocks certain begun begins r zone (free_logged k x log u) els
 
 -- ---- a home write begins, or ends
 

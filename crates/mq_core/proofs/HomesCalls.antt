@@ -1,25 +1,24 @@
 -- Home writes as the machine makes them: on the port of the block's zone, or on the root's.
-use Rattle.std.proofs.Common.{◌≡◌, ℕ, ◌<◌, ◌≤◌, true, List, ◌∷◌, length, Option, Some, None, refl, ap, ◌∙◌, arith}
+use Rattle.std.proofs.Common.{◌≡◌, ℕ, ◌<◌, ◌≤◌, true, Bool, List, length, Option, Some, None, sym, refl, ap, ◌∙◌, arith}
 use Rattle.mq_blocks.specs.Drive.{PortState}
 use Rattle.mq_blocks.specs.Geometry.{homes_of, zone_of, home_lba}
 use Rattle.mq_blocks.specs.Journal.{is_among}
 use Rattle.mq_ledger.specs.History.{blocks_of, map_after, last, IsAt}
-use Rattle.mq_ledger.specs.Plain.{plain}
-use Rattle.mq_ledger.specs.State.{State, Facts, front_of, port_at, port_of, start_map}
-use Rattle.mq_core.specs.Events.{MayWriteHome, with_port, begin_home, end_home, content_at, without}
+use Rattle.mq_ledger.specs.Items.{Entries}
+use Rattle.mq_ledger.specs.State.{State, front_of, port_at, port_of, start_map}
+use Rattle.mq_core.specs.Events.{with_port, content_at}
 use Rattle.mq_core.specs.Homes.{ports_after, root_after, IsIn, IsInZone}
-use Rattle.mq_core.specs.Machine.{WriteHome, HomeDone}
-use Rattle.mq_core.specs.View.{IsHeld}
+use Rattle.mq_core.specs.View.{IsHeldBy}
 use Rattle.mq_core.specs.Within.{IsWithin}
 use Rattle.std.specs.Prelude.{Ok}
 use Rattle.mq_ledger.specs.declared.tx.Tx.{Tx}
 use Rattle.mq_core.proofs.Within.{home_within, root_within}
-use Rattle.mq_core.proofs.MachineLifts.{Told, front_stays}
+use Rattle.mq_core.proofs.MachineLifts.{Machine, Told, happened, front_stays}
 use Rattle.mq_core.proofs.StateBases.{logged_value}
 use Rattle.mq_core.proofs.StateEvents.{zone-queue}
-use Rattle.mq_core.proofs.EventsTellings.{happened}
+use Rattle.mq_core.proofs.StateSides.{HasSides}
 
-module _ (s : State) (f : Facts plain s) (x : ℕ) (inside : x < homes_of s.geometry) where
+module _ {e : Entries} {due : ℕ → ℕ → Bool} (s : State) (f : HasSides e due s) (x : ℕ) (inside : x < homes_of s.geometry) where
   -- the port is there and has the block
   pub is_in : IsIn s.geometry x s.ports s.root
   is_in = go (zone_of s.geometry x) refl
@@ -55,25 +54,19 @@ in_parts s after writing (Some q) = refl
 in_parts s after writing None = refl
 
 -- a block whose last change, above the stored base, logged it is in the map
-pub is_there : (s : State) (x : ℕ) → Facts plain s → s.root.stored_base < last s.base s.history x → ((t : Tx) (ts : List Tx) → IsAt t ts s.history → t.number ≡ last s.base s.history x → is_among x (blocks_of t.logged) ≡ true)
+pub is_there : {e : Entries} {due : ℕ → ℕ → Bool} (s : State) (x : ℕ) → HasSides e due s → s.root.stored_base < last s.base s.history x → ((t : Tx) (ts : List Tx) → IsAt t ts s.history → t.number ≡ last s.base s.history x → is_among x (blocks_of t.logged) ≡ true)
     → (block : List ℕ) × (map_after (start_map s.start) s.history x ≡ Some block)
 is_there s x f low logged =
     let word : s.base ≤ s.root.base = f.log.word_low in
     let stored : s.root.base ≤ s.root.stored_base = f.root.bases.1 in
     logged_value (start_map s.start) s.base x s.history f.log.numbers (omega arith) logged
 
-pub written : (front : ℕ) (s : State) (x : ℕ) (content : List ℕ) (ports : List PortState) (root : PortState) (writing : List ℕ) → IsHeld front s → MayWriteHome s x → content ≡ content_at s x → ports ≡ ports_after (begin_home s.geometry x content) (zone_of s.geometry x) s.ports
-    → root ≡ root_after (begin_home s.geometry x content) (zone_of s.geometry x) s.root → writing ≡ x ∷ s.writing → Told (WriteHome x) front s (record s { ports = ports; root = root; writing = writing }) (Ok tt)
-written front s x content ports root writing held may is p r u =
-    happened (WriteHome x) front s (record s { ports = ports; root = root; writing = writing }) held may
-    ((λ i. record s { ports = p i; root = r i; writing = u i }) ∙ ap (λ c. record s { ports = ports_after (begin_home s.geometry x c) (zone_of s.geometry x) s.ports; root = root_after (begin_home s.geometry x c) (zone_of s.geometry x) s.root; writing = x ∷ s.writing }) is
-    ∙ in_parts s (begin_home s.geometry x (content_at s x)) (x ∷ s.writing) (zone_of s.geometry x))
-    (same_front s held.facts x may.block (begin_home s.geometry x (content_at s x)) (λ p. refl))
-
-pub ended : (front : ℕ) (s : State) (x : ℕ) (content : List ℕ) (ports : List PortState) (root : PortState) (writing : List ℕ) → IsHeld front s → is_among x s.writing ≡ true → content ≡ content_at s x → ports ≡ ports_after (end_home s.geometry x content) (zone_of s.geometry x) s.ports
-    → root ≡ root_after (end_home s.geometry x content) (zone_of s.geometry x) s.root → writing ≡ without x s.writing → Told (HomeDone x) front s (record s { ports = ports; root = root; writing = writing }) (Ok tt)
-ended front s x content ports root writing held may is p r u =
-    happened (HomeDone x) front s (record s { ports = ports; root = root; writing = writing }) held may
-    ((λ i. record s { ports = p i; root = r i; writing = u i }) ∙ ap (λ c. record s { ports = ports_after (end_home s.geometry x c) (zone_of s.geometry x) s.ports; root = root_after (end_home s.geometry x c) (zone_of s.geometry x) s.root; writing = without x s.writing }) is
-    ∙ in_parts s (end_home s.geometry x (content_at s x)) (without x s.writing) (zone_of s.geometry x))
-    (same_front s held.facts x (held.facts.writing x may).block (end_home s.geometry x (content_at s x)) (λ p. refl))
+-- an event of a machine that changes the block's port by this, and what is under way
+module _ (m : Machine) (v : m.Event) {e : Entries} {due : ℕ → ℕ → Bool} (front : ℕ) (s : State) (x : ℕ) (after : List ℕ → PortState → PortState) (under : List ℕ) (held : IsHeldBy m.Facts front s) (may : m.Allowed v s) (f : HasSides e due s) (inside : x < homes_of s.geometry) (head : (p : PortState) → (after (content_at s x) p).head ≡ p.head) (then : m.happens v s ≡ record (with_port s (zone_of s.geometry x) (after (content_at s x) (port_of s (zone_of s.geometry x)))) { writing = under }) where
+  pub changed : (content : List ℕ) (ports : List PortState) (root : PortState) (writing : List ℕ) → content ≡ content_at s x → ports ≡ ports_after (after content) (zone_of s.geometry x) s.ports → root ≡ root_after (after content) (zone_of s.geometry x) s.root → writing ≡ under
+      → Told m v front s (record s { ports = ports; root = root; writing = writing }) (Ok tt)
+  changed content ports root writing is p r u =
+      happened m v front s (record s { ports = ports; root = root; writing = writing }) held may
+      ((λ i. record s { ports = p i; root = r i; writing = u i }) ∙ ap (λ c. record s { ports = ports_after (after c) (zone_of s.geometry x) s.ports; root = root_after (after c) (zone_of s.geometry x) s.root; writing = under }) is
+      ∙ in_parts s (after (content_at s x)) under (zone_of s.geometry x) ∙ sym then)
+      (ap front_of then ∙ same_front s f x inside (after (content_at s x)) head)

@@ -8,6 +8,7 @@ pub mod KnownJournalGrowth
 pub mod Homes
 pub mod HistoryBases
 pub mod Roots
+pub mod StateSides
 pub mod StatePorts
 pub mod StateEvents
 pub mod StateBases
@@ -17,15 +18,16 @@ pub mod StateCuts
 pub mod StateSafe
 pub mod Reach
 pub mod MachineFacts
-mod MachineLifts
-mod Within
-mod Settled
+pub mod MachineLifts
+mod MachineCore
+pub mod Within
+pub mod Settled
 mod Stored
 pub mod HomesWritten
 pub mod DriveHomeWrites
-mod EventsTellings
-mod HomesCalls
-mod Bases
+pub mod EventsTellings
+pub mod HomesCalls
+pub mod Bases
 mod MachineRunning
 mod Start
 mod MachineExamples

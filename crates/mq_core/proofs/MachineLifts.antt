@@ -1,22 +1,18 @@
--- What the port of a queue answers to an event, and what the whole machine answers by it.
+-- What the port of a queue answers to an event, and what a whole machine over the journal's states answers by it.
 use Rattle.std.proofs.Common.{◌≡◌, ℕ, ◌+◌, ◌<◌, Bool, List, length, get_or, set, Option, Some, None, Result, Ok, Err, sym, refl, ap, subst, ◌∙◌, inl, inr, arith, nat_le}
 use Rattle.std.proofs.lemmas.Bool.{cases_eq}
 use Rattle.std.proofs.lemmas.List.{set-get_or, get_or_read}
 use Rattle.mq_blocks.specs.Drive.{PortState, staged_end}
-use Rattle.mq_blocks.specs.Geometry.{zone_of}
 use Rattle.mq_ledger.specs.History.{part_of, writes, of_queue}
 use Rattle.mq_ledger.specs.Items.{end_of, descriptor_blocks}
-use Rattle.mq_ledger.specs.Plain.{plain}
-use Rattle.mq_ledger.specs.State.{State, Facts, port_at, port_of, from_at, front_of}
+use Rattle.mq_ledger.specs.State.{State, port_at, port_of, from_at, front_of}
 use Rattle.mq_ledger.specs.declared.tx.Tx.{Tx}
 use Rattle.mq_core.specs.Answers.{Answers}
-use Rattle.mq_core.specs.Events.{with_port, begin_home, end_home, content_at}
-use Rattle.mq_core.specs.Machine.{Event, Draw, Stage, Flush, Ring, Complete, FailCommand, StoreHead, FlushHead, Clear, Acknowledge, WriteHome, HomeDone, StoreBase, FlushBase, IsAllowed, happens}
-use Rattle.mq_core.specs.View.{IsHeld}
+use Rattle.mq_core.specs.Events.{with_port}
+use Rattle.mq_core.specs.View.{IsHeldBy}
 use Rattle.mq_core.specs.declared.event.CoreRefusal.{CoreRefusal}
 use Rattle.mq_core.specs.declared.event.CoreRefusal.TheVariants.{NotAllowed, OutOfMemory}
 use Rattle.mq_core.proofs.StatePorts.{port_same, port_other}
-use Rattle.mq_core.proofs.MachineFacts.{keeps}
 
 -- heads that stay where they are leave the front
 pub front_stays : (s : State) (q : ℕ) (p : PortState) → q < length s.ports → p.head ≡ (port_at s.ports q).head → front_of (with_port s (Some q) p) ≡ front_of s
@@ -28,39 +24,37 @@ front_stays s q p within same = ap (λ (w : Tx → List Tx → Bool). s.base + l
       | inr other ↦ ap (λ (w : PortState). w.head) (port_other s.ports q r p other)
     ]
 
--- What the machine answers to an event: the new state is held, and the answer is the event's.
-pub record Told (v : Event) (front : ℕ) (s new : State) (r : Result (Unit {0}) CoreRefusal) : Type 0 where
-  pub held : IsHeld front new
-  pub answer : Answers (IsAllowed plain v s) (happens plain v s) s new r
+-- A machine over states of the journal: its events, where each is allowed, what each changes, and the facts
+-- that they keep. No event stages anything at the root.
+pub record Machine : Type 1 where
+  pub Event : Type 0
+  pub Facts : State → Type 0
+  pub Allowed : Event → State → Type 0
+  pub happens : Event → State → State
+  pub keeps : (v : Event) (s : State) → Facts s → Allowed v s → Facts (happens v s)
+  pub idle_stays : (v : Event) (s : State) → staged_end (happens v s).root ≡ staged_end s.root
 
--- no event stages anything at the root
-pub idle_stays : (v : Event) (s : State) → staged_end (happens plain v s).root ≡ staged_end s.root
-idle_stays (Draw t) s = refl
-idle_stays (Stage q) s = refl
-idle_stays (Flush q) s = refl
-idle_stays (Ring q) s = refl
-idle_stays (Complete q c) s = refl
-idle_stays (FailCommand q c) s = refl
-idle_stays (StoreHead q h) s = refl
-idle_stays (FlushHead q) s = refl
-idle_stays (Clear q low) s = refl
-idle_stays (Acknowledge n) s = refl
-idle_stays (WriteHome x) s = go (zone_of s.geometry x)
-  where
-    go : (z : Option ℕ) → staged_end (with_port s z (begin_home s.geometry x (content_at s x) (port_of s z))).root ≡ staged_end s.root
-    go (Some q) = refl
-    go None = refl
-idle_stays (HomeDone x) s = go (zone_of s.geometry x)
-  where
-    go : (z : Option ℕ) → staged_end (with_port s z (end_home s.geometry x (content_at s x) (port_of s z))).root ≡ staged_end s.root
-    go (Some q) = refl
-    go None = refl
-idle_stays (StoreBase b) s = refl
-idle_stays FlushBase s = refl
+-- What the machine answers to an event: the new state is held, and the answer is the event's.
+pub record Told (m : Machine) (v : m.Event) (front : ℕ) (s new : State) (r : Result (Unit {0}) CoreRefusal) : Type 0 where
+  pub held : IsHeldBy m.Facts front new
+  pub answer : Answers (m.Allowed v s) (m.happens v s) s new r
 
 -- the answer where the old state is seen by another name
-pub answer_at : {v : Event} {front : ℕ} {s old new : State} {r : Result (Unit {0}) CoreRefusal} → s ≡ old → Told v front s new r → Answers (IsAllowed plain v old) (happens plain v old) old new r
-answer_at {v} {front} {s} {old} {new} {r} is told = subst (λ t. Answers (IsAllowed plain v t) (happens plain v t) t new r) is told.answer
+pub answer_at : {m : Machine} {v : m.Event} {front : ℕ} {s old new : State} {r : Result (Unit {0}) CoreRefusal} → s ≡ old → Told m v front s new r → Answers (m.Allowed v old) (m.happens v old) old new r
+answer_at {m} {v} {front} {s} {old} {new} {r} is told = subst (λ t. Answers (m.Allowed v t) (m.happens v t) t new r) is told.answer
+
+-- an event that was allowed has happened, and left the front
+pub happened : (m : Machine) (v : m.Event) (front : ℕ) (s new : State) → IsHeldBy m.Facts front s → m.Allowed v s → new ≡ m.happens v s → front_of (m.happens v s) ≡ front_of s → Told m v front s new (Ok tt)
+happened m v front s new held may is stays =
+    record {
+      held = subst (λ t. IsHeldBy m.Facts front t) (sym is) (record { facts = m.keeps v s held.facts may; front_is = held.front_is ∙ sym stays; idle = m.idle_stays v s ∙ held.idle });
+      answer = (may, is);
+    }
+
+-- what changes a block's port stages nothing at the root, where it stages nothing at any port
+pub idle_with : (s : State) (z : Option ℕ) (p : PortState) → staged_end p ≡ staged_end (port_of s z) → staged_end (with_port s z p).root ≡ staged_end s.root
+idle_with s (Some q) p same = refl
+idle_with s None p same = same
 
 -- the port that stands at an index
 pub same_port : (ports : List PortState) (q at : ℕ) (v : PortState) → at < length ports → at ≡ q → v ≡ get_or ports at v → v ≡ port_at ports q
@@ -71,7 +65,7 @@ pub set_port : (after : PortState → PortState) (ports : List PortState) (q at 
 set_port after ports q at v p own is value e = λ i. set ports (is i) ((e ∙ ap after (same_port ports q at v own is value)) i)
 
 -- The port that stands at this index is the queue's, it was asked for an event, and is this one now.
-module _ (front q at : ℕ) (s : State) (v p : PortState) (allowed : PortState → Type 0) (after : PortState → PortState) (r : Result (Unit {0}) CoreRefusal) (own : at < length s.ports) (is : at ≡ q) (value : v ≡ get_or s.ports at v) (held : IsHeld front s) (told : Answers (allowed v) (after v) v p r) where
+module _ (m : Machine) (front q at : ℕ) (s : State) (v p : PortState) (allowed : PortState → Type 0) (after : PortState → PortState) (r : Result (Unit {0}) CoreRefusal) (own : at < length s.ports) (is : at ≡ q) (value : v ≡ get_or s.ports at v) (held : IsHeldBy m.Facts front s) (told : Answers (allowed v) (after v) v p r) where
   abbrev pub port : PortState
   port = port_at s.ports q
 
@@ -82,16 +76,16 @@ module _ (front q at : ℕ) (s : State) (v p : PortState) (allowed : PortState �
   answer = subst (λ w. Answers (allowed w) (after w) w p r) (same_port s.ports q at v own is value) told
 
   -- the port is the old one, or the one after the event
-  moved : (r : Result (Unit {0}) CoreRefusal) → Answers (allowed port) (after port) port p r → (allowed port → Facts plain (with_port s (Some q) (after port))) → (after port).head ≡ port.head → IsHeld front (with_port s (Some q) p)
-  moved (Ok u) a facts head = subst (λ w. IsHeld front (with_port s (Some q) w)) (sym a.1) (record { facts = facts a.0; front_is = held.front_is ∙ sym (front_stays s q (after port) within head); idle = held.idle })
+  moved : (r : Result (Unit {0}) CoreRefusal) → Answers (allowed port) (after port) port p r → (allowed port → m.Facts (with_port s (Some q) (after port))) → (after port).head ≡ port.head → IsHeldBy m.Facts front (with_port s (Some q) p)
+  moved (Ok u) a facts head = subst (λ w. IsHeldBy m.Facts front (with_port s (Some q) w)) (sym a.1) (record { facts = facts a.0; front_is = held.front_is ∙ sym (front_stays s q (after port) within head); idle = held.idle })
   moved (Err (NotAllowed n)) a facts head = kept a.2
     where
-      kept : p ≡ port → IsHeld front (with_port s (Some q) p)
-      kept e = subst (λ ps. IsHeld front (record s { ports = ps })) (sym (set-get_or s.ports q _) ∙ ap (set s.ports q) (sym e)) held
-  moved (Err OutOfMemory) a facts head = subst (λ ps. IsHeld front (record s { ports = ps })) (sym (set-get_or s.ports q _) ∙ ap (set s.ports q) (sym a)) held
+      kept : p ≡ port → IsHeldBy m.Facts front (with_port s (Some q) p)
+      kept e = subst (λ ps. IsHeldBy m.Facts front (record s { ports = ps })) (sym (set-get_or s.ports q _) ∙ ap (set s.ports q) (sym e)) held
+  moved (Err OutOfMemory) a facts head = subst (λ ps. IsHeldBy m.Facts front (record s { ports = ps })) (sym (set-get_or s.ports q _) ∙ ap (set s.ports q) (sym a)) held
 
-  port_held : (allowed port → Facts plain (with_port s (Some q) (after port))) → (after port).head ≡ port.head → IsHeld front (record s { ports = set s.ports at p })
-  port_held facts head = subst (λ n. IsHeld front (record s { ports = set s.ports n p })) (sym is) (moved r answer facts head)
+  port_held : (allowed port → m.Facts (with_port s (Some q) (after port))) → (after port).head ≡ port.head → IsHeldBy m.Facts front (record s { ports = set s.ports at p })
+  port_held facts head = subst (λ n. IsHeldBy m.Facts front (record s { ports = set s.ports n p })) (sym is) (moved r answer facts head)
 
   whole : (A : Type 0) (r : Result (Unit {0}) CoreRefusal) → Answers (allowed port) (after port) port p r → (allowed port → A) → (A → allowed port) → Answers A (with_port s (Some q) (after port)) s (with_port s (Some q) p) r
   whole A (Ok u) a allow deny = (allow a.0, ap (λ w. with_port s (Some q) w) a.1)
@@ -102,9 +96,9 @@ module _ (front q at : ℕ) (s : State) (v p : PortState) (allowed : PortState �
   port_answer A allow deny = subst (λ n. Answers A (with_port s (Some q) (after port)) s (record s { ports = set s.ports n p }) r) (sym is) (whole A r answer allow deny)
 
   -- the event is the machine's
-  pub port_told : (w : Event) → (allowed port → IsAllowed plain w s) → (IsAllowed plain w s → allowed port) → happens plain w s ≡ with_port s (Some q) (after port) → (after port).head ≡ port.head → Told w front s (record s { ports = set s.ports at p }) r
+  pub port_told : (w : m.Event) → (allowed port → m.Allowed w s) → (m.Allowed w s → allowed port) → m.happens w s ≡ with_port s (Some q) (after port) → (after port).head ≡ port.head → Told m w front s (record s { ports = set s.ports at p }) r
   port_told w allow deny then head =
       record {
-        held = port_held (λ a. subst (λ t. Facts plain t) then (keeps plain w s held.facts (allow a))) head;
-        answer = subst (λ t. Answers (IsAllowed plain w s) t s (record s { ports = set s.ports at p }) r) (sym then) (port_answer (IsAllowed plain w s) allow deny);
+        held = port_held (λ a. subst (λ t. m.Facts t) then (m.keeps w s held.facts (allow a))) head;
+        answer = subst (λ t. Answers (m.Allowed w s) t s (record s { ports = set s.ports at p }) r) (sym then) (port_answer (m.Allowed w s) allow deny);
       }

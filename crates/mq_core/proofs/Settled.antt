@@ -1,23 +1,20 @@
 -- The front is brought forward one by one.
-use Rattle.std.proofs.Common.{set, ◌≡◌, ℕ, ◌+◌, ◌<◌, ◌≤◌, leb, Bool, true, List, [], ◌∷◌, length, get_or, sym, refl, ap, ◌∙◌, inl, inr, arith}
+use Rattle.std.proofs.Common.{set, ◌≡◌, ℕ, ◌+◌, ◌<◌, ◌≤◌, leb, Bool, true, List, [], ◌∷◌, length, get_or, sym, refl, ap, subst, ◌∙◌, inl, inr, arith}
 use Rattle.std.specs.Bool.{IsTrue}
 use Rattle.std.proofs.lemmas.Bool.{cases_order, cases_lt, false≢true}
 use Rattle.std.proofs.lemmas.List.{get_or_read}
 use Rattle.mq_blocks.specs.Drive.{PortState, after_flush}
 use Rattle.mq_ledger.specs.History.{writes, of_queue, AreNumbered, IsAt, part_of}
 use Rattle.mq_ledger.specs.Items.{end_of, descriptor_blocks}
-use Rattle.mq_ledger.specs.Plain.{plain}
 use Rattle.mq_ledger.specs.Records.{Ledger, IsNextEnd, settle_next}
-use Rattle.mq_ledger.specs.State.{State, Facts, is_done, from_at, port_at, no_port, front_of, known_of}
+use Rattle.mq_ledger.specs.State.{State, is_done, from_at, port_at, no_port, front_of}
 use Rattle.mq_ledger.specs.declared.queue_rows.QueueEnd.{QueueEnd}
 use Rattle.mq_ledger.specs.declared.tx.Tx.{Tx}
 use Rattle.mq_ledger.proofs.History.{at_most, at_same}
-use Rattle.mq_core.specs.Events.{flush, us_of}
+use Rattle.mq_core.specs.Events.{flush}
 use Rattle.mq_core.specs.Settled.{IsNextDone, IsSettled, with_front, settled}
-use Rattle.mq_core.specs.View.{IsHeld, state_with}
+use Rattle.mq_core.specs.View.{IsHeldBy, state_with}
 use Rattle.mq_core.proofs.HistoryFronts.{part_le, part_stops, done_below}
-use Rattle.mq_core.proofs.EventsSides.{side_flush}
-use Rattle.mq_core.proofs.StatePorts.{flush_keeps, port_front}
 
 -- the transaction of a number
 pub record Numbered (n : ℕ) (h : List Tx) : Type 0 where
@@ -110,31 +107,26 @@ next_high l ports s next = (let at = next.number in omega (arith, at_most l.base
 
 -- ---- after the flush of a queue's port
 
-module _ (l : Ledger) (ports : List PortState) (root : PortState) (marks writing acknowledged : List ℕ) (q : ℕ) (own : q < l.geometry.queues) (held : IsHeld l.front (state_with l ports root marks writing acknowledged)) where
+-- what is held, of another ledger and other ports that are the same
+pub held_along : (has : State → Type 0) (l k : Ledger) (ps qs : List PortState) (root : PortState) (marks writing acknowledged : List ℕ) → l ≡ k → ps ≡ qs → IsHeldBy has l.front (state_with l ps root marks writing acknowledged) → IsHeldBy has k.front (state_with k qs root marks writing acknowledged)
+held_along has l k ps qs root marks writing acknowledged a b h = subst (λ (m : Ledger). IsHeldBy has m.front (state_with m qs root marks writing acknowledged)) a (subst (λ rs. IsHeldBy has l.front (state_with l rs root marks writing acknowledged)) b h)
+
+module _ (has : State → Type 0) (l : Ledger) (ports : List PortState) (root : PortState) (marks writing acknowledged : List ℕ) (q : ℕ) (numbers : AreNumbered l.base l.history) (held : IsHeldBy has l.front (state_with l ports root marks writing acknowledged)) where
   abbrev s : State
   s = state_with l ports root marks writing acknowledged
 
   abbrev flushed : List PortState
   flushed = set ports q (after_flush (port_at ports q))
 
-  kept : Facts plain (flush q s)
-  kept = flush_keeps plain s held.facts q own
-
-  higher : l.front ≤ front_of (flush q s)
-  higher =
-      let f = held.facts in
-      let o = (f.sides q own).order in
-      let more = port_front plain s f q own (after_flush (port_at ports q)) (side_flush (known_of plain s) q (us_of s q) (port_at ports q) (f.sides q own)) (omega (arith, o.stored)) (λ x among z u. (λ h. h, λ h. h)) in
-      omega (arith, held.front_is, more)
-
-  pub flush_settled : IsSettled l flushed
-  flush_settled =
+  pub flush_settled : front_of s ≤ front_of (flush q s) → IsSettled l flushed
+  flush_settled more =
+      let higher : l.front ≤ front_of (flush q s) = omega (arith, held.front_is, more) in
       record {
-        numbers = held.facts.log.numbers;
+        numbers = numbers;
         low = omega (arith, held.front_is);
         high = omega (arith, held.front_is, part_le (is_done l.starts ports) l.history);
-        done = λ t ts at below. done_below l.base (is_done l.starts flushed) t ts l.history held.facts.log.numbers at (omega (arith, higher));
+        done = λ t ts at below. done_below l.base (is_done l.starts flushed) t ts l.history numbers at (omega (arith, higher));
       }
 
-  pub flush_held : IsHeld (settled flushed l).front (state_with (settled flushed l) flushed root marks writing acknowledged)
-  flush_held = record { facts = kept; front_is = refl; idle = held.idle }
+  pub flush_held : has (flush q s) → IsHeldBy has (settled flushed l).front (state_with (settled flushed l) flushed root marks writing acknowledged)
+  flush_held kept = record { facts = kept; front_is = refl; idle = held.idle }

@@ -12,7 +12,7 @@ use Rattle.mq_blocks.proofs.DriveBegun.{begun_new}
 use Rattle.mq_ledger.specs.History.{blocks_of, changes, last, of_queue, IsAt}
 use Rattle.mq_ledger.specs.Items.{Entries}
 use Rattle.mq_ledger.specs.KnownJournal.{LogOk, front, draw_known, MayDraw}
-use Rattle.mq_ledger.specs.Sides.{SideOk, RootOk, home_index, home_index_in}
+use Rattle.mq_ledger.specs.Sides.{SideOk, RootOk, home_index}
 use Rattle.mq_ledger.specs.State.{State, Facts, IsUnder, port_at, port_of, from_at, known_of, front_of}
 use Rattle.mq_ledger.specs.declared.tx.Tx.{Tx}
 use Rattle.mq_ledger.proofs.History.{last_le, last-same}
@@ -21,12 +21,12 @@ use Rattle.mq_core.specs.Events.{with_port, us_of, draw, clear, acknowledge, wri
 use Rattle.mq_core.proofs.EventsPorts.{index-zone, index-root, zone-apart}
 use Rattle.mq_core.proofs.KnownJournalGrowth.{front_drawn, side_drawn, root_drawn, log_drawn, side_extends}
 use Rattle.mq_core.specs.Homes.{IsLoggedLast}
-use Rattle.mq_core.proofs.Homes.{side_written, root_written, else_begin, else_end}
-use Rattle.mq_core.proofs.StatePorts.{port_keeps, port_front, port_same}
+use Rattle.mq_core.proofs.Homes.{side_written, root-apart, root_written, else_begin, else_end}
+use Rattle.mq_core.proofs.StatePorts.{port_keeps, port_front, port_same, root_along}
 
 -- ---- a draw
 
-unchanged_among : (t : Tx) (xs : List ℕ) (x : ℕ) → is_among x (unchanged_by t xs) ≡ true → (is_among x xs ≡ true) × (changes t x ≡ false)
+pub unchanged_among : (t : Tx) (xs : List ℕ) (x : ℕ) → is_among x (unchanged_by t xs) ≡ true → (is_among x xs ≡ true) × (changes t x ≡ false)
 unchanged_among t [] x e = absurd (false≢true e)
 unchanged_among t (y ∷ ys) x e = elim (cases_Bool (changes t y)) [
   | inl c ↦ (let r = unchanged_among t ys x (rw c at e) in (elim (cases_Bool (eqb y x)) [ inl s ↦ rw s refl | inr o ↦ rw o r.0 ], r.1))
@@ -178,8 +178,8 @@ root_keeps e s p f base stored root writing =
             low = rw stored u.low;
             high = u.high;
             logged = u.logged;
-            loose = go_certain x h u (zone_of s.geometry x) refl;
-            begun = go_begun x h u (zone_of s.geometry x) refl;
+            loose = root_along (λ w. get_or w.certain (home_index s.geometry x) false ≡ false) s p (zone_of s.geometry x) (λ z c. (writing x h z u).0) u.loose;
+            begun = root_along (λ w. holds_write (home_lba s.geometry x) w.begun ≡ true) s p (zone_of s.geometry x) (λ z b. (writing x h z u).1) u.begun;
           };
       acknowledged = f.acknowledged;
     }
@@ -187,22 +187,14 @@ root_keeps e s p f base stored root writing =
     same : known_of e s ≡ known_of e (record s { root = p })
     same = λ i. record (known_of e s) { due = λ x v. eqb v (sym base i) || eqb v (sym stored i); word = sym base i }
 
-    go_certain : (x : ℕ) → is_among x s.writing ≡ true → IsUnder s x → (z : Option ℕ) → zone_of s.geometry x ≡ z → get_or (port_of (record s { root = p }) z).certain (home_index s.geometry x) false ≡ false
-    go_certain x h u None z = (writing x h z u).0
-    go_certain x h u (Some r) z = ap (λ (w : PortState). get_or w.certain (home_index s.geometry x) false) (sym (ap (port_of s) z)) ∙ u.loose
-
-    go_begun : (x : ℕ) → is_among x s.writing ≡ true → IsUnder s x → (z : Option ℕ) → zone_of s.geometry x ≡ z → holds_write (home_lba s.geometry x) (port_of (record s { root = p }) z).begun ≡ true
-    go_begun x h u None z = (writing x h z u).1
-    go_begun x h u (Some r) z = ap (λ (w : PortState). holds_write (home_lba s.geometry x) w.begun) (sym (ap (port_of s) z)) ∙ u.begun
-
-begun_append : (lba : ℕ) (ws : List HomeWrite) (w : HomeWrite) → holds_write lba ws ≡ true → holds_write lba (ws ++ w ∷ []) ≡ true
+pub begun_append : (lba : ℕ) (ws : List HomeWrite) (w : HomeWrite) → holds_write lba ws ≡ true → holds_write lba (ws ++ w ∷ []) ≡ true
 begun_append lba [] w h = absurd (false≢true h)
 begun_append lba (v ∷ ws) w h = elim (cases_Bool (eqb v.lba lba)) [
   | inl same ↦ rw same refl
   | inr other ↦ rw other (begun_append lba ws w (rw other at h))
 ]
 
-begun_left : (lba other : ℕ) (ws : List HomeWrite) → lba ≢ other → holds_write lba ws ≡ true → holds_write lba (without_last other ws) ≡ true
+pub begun_left : (lba other : ℕ) (ws : List HomeWrite) → lba ≢ other → holds_write lba ws ≡ true → holds_write lba (without_last other ws) ≡ true
 begun_left lba other [] apart h = h
 begun_left lba other (w ∷ ws) apart h =
     elim (cases_Bool (holds_write other ws)) [
@@ -314,7 +306,7 @@ write_home_keeps e s x f may = go (zone_of s.geometry x) refl
 
 -- ---- it ends
 
-without_among : (x : ℕ) (ys : List ℕ) (y : ℕ) → is_among y (without x ys) ≡ true → (is_among y ys ≡ true) × (y ≢ x)
+pub without_among : (x : ℕ) (ys : List ℕ) (y : ℕ) → is_among y (without x ys) ≡ true → (is_among y ys ≡ true) × (y ≢ x)
 without_among x [] y h = absurd (false≢true h)
 without_among x (z ∷ zs) y h = elim (cases_Bool (eqb z x)) [
   | inl c ↦ (let r = without_among x zs y (rw c at h) in (elim (cases_Bool (eqb z y)) [ inl s ↦ rw s refl | inr o ↦ rw o r.0 ], r.1))
@@ -344,7 +336,7 @@ ended_keeps e s x block None zone f inside u apart =
     root_keeps e s (end_home s.geometry x block p) f refl refl
     (root_written (known_of e s) p x (end_home s.geometry x block p).blocks (end_home s.geometry x block p).certain (end_home s.geometry x block p).begun (end_home s.geometry x block p).begins f.log f.root zone inside u (else_end s.geometry x block p at.0))
     (λ y among z v. (
-      get_or-set_other p.certain (index_of p (home_lba s.geometry x)) (home_index s.geometry y) true false (λ n. apart y among (sym (ap (λ w. home_index_in s.geometry w y) z) ∙ (n ∙ at.0) ∙ ap (λ w. home_index_in s.geometry w x) zone))
+      get_or-set_other p.certain (index_of p (home_lba s.geometry x)) (home_index s.geometry y) true false (λ n. apart y among (root-apart s.geometry x y zone z (n ∙ at.0)))
           ∙ (ap (λ (w : PortState). get_or w.certain (home_index s.geometry y) false) (sym (ap (port_of s) z)) ∙ v.loose),
       begun_left (home_lba s.geometry y) (home_lba s.geometry x) p.begun (λ n. apart y among (omega (arith, n))) (ap (λ (w : PortState). holds_write (home_lba s.geometry y) w.begun) (sym (ap (port_of s) z)) ∙ v.begun),
     ))

@@ -17,6 +17,7 @@ use Rattle.mq_core.proofs.SidesCommands.{own_with}
 use Rattle.mq_core.proofs.KnownJournalSources.{late}
 use Rattle.mq_core.proofs.HistoryFronts.{DoneMore}
 use Rattle.mq_core.proofs.KnownJournalGrowth.{front_more, log_more, side_more, root_more}
+use Rattle.mq_core.proofs.StateSides.{HasSides, known_with, sides_of}
 use Rattle.mq_core.proofs.EventsSides.{side_stage, side_flush, side_store_head}
 use Rattle.mq_core.proofs.EventsSideCommands.{side_ring, side_complete, side_fail, apart_home, posted_late}
 
@@ -25,6 +26,56 @@ port_same ports q p l = get_or-set_same ports q p _ l
 
 pub port_other : (ports : List PortState) (q r : ℕ) (p : PortState) → r ≢ q → port_at (set ports q p) r ≡ port_at ports r
 port_other ports q r p other = get_or-set_other ports q r p _ other
+
+-- what is said of a block's port, where another port stands for the queue's
+pub port_along : (A : PortState → Type 0) (s : State) (q : ℕ) (p : PortState) (z : Option ℕ) → q < length s.ports → (z ≡ Some q → A (port_at s.ports q) → A p) → A (port_of s z) → A (port_of (with_port s (Some q) p) z)
+port_along A s q p None within to a = a
+port_along A s q p (Some r) within to a = elim (cases_eq r q) [
+  | inl same ↦ subst A (sym (ap (port_at (set s.ports q p)) same ∙ port_same s.ports q p within)) (to (ap Some same) (subst (λ n. A (port_at s.ports n)) same a))
+  | inr other ↦ subst A (sym (port_other s.ports q r p other)) a
+]
+
+-- and for the root's
+pub root_along : (A : PortState → Type 0) (s : State) (p : PortState) (z : Option ℕ) → (z ≡ None → A s.root → A p) → A (port_of s z) → A (port_of (record s { root = p }) z)
+root_along A s p None to a = to refl a
+root_along A s p (Some q) to a = a
+
+-- the queue's port is this one now, and its head is no lower
+module _ (e : Entries) (due : ℕ → ℕ → Bool) (s : State) (h : HasSides e due s) (q : ℕ) (own : q < s.geometry.queues) (p : PortState) (side : SideOk (known_with e due s) q (us_of s q) p) (higher : (port_at s.ports q).head ≤ p.head) where
+  abbrev known : KnownJournal
+  known = known_with e due s
+
+  abbrev done_now : Tx → List Tx → Bool
+  done_now = is_done s.starts (set s.ports q p)
+
+  there : q < length s.ports
+  there = omega (arith, own, h.ports)
+
+  pub done_more : DoneMore known.done done_now s.history
+  done_more = record {
+    each = λ t ts at d. le-leb _ _ (elim (cases_eq t.queue q) [
+      | inl same ↦ (let l = leb-true _ _ d in let up : (port_at s.ports t.queue).head ≤ (port_at (set s.ports q p) t.queue).head = rw (same, port_same s.ports q p there) higher in omega arith)
+      | inr other ↦ rw (port_other s.ports q t.queue p other) (leb-true _ _ d)
+    ]);
+  }
+
+  at_each : (r : ℕ) → r < s.geometry.queues → SideOk known r (of_queue r s.history) (port_at (set s.ports q p) r)
+  at_each r inside = elim (cases_eq r q) [
+    | inl same ↦
+        let is : port_at (set s.ports q p) r ≡ p = ap (port_at (set s.ports q p)) same ∙ port_same s.ports q p there in
+        subst (λ w. SideOk known r (of_queue r s.history) w) (sym is) (subst (λ n. SideOk known n (of_queue n s.history) p) (sym same) side)
+    | inr other ↦ subst (λ w. SideOk known r (of_queue r s.history) w) (sym (port_other s.ports q r p other)) (h.sides r inside)
+  ]
+
+  pub sides_with : HasSides e due (with_port s (Some q) p)
+  sides_with = record {
+    log = log_more known done_now h.log done_more;
+    ports = length-set s.ports q p ∙ h.ports;
+    sides = λ r inside. side_more known done_now h.log done_more r (of_queue r s.history) (port_at (set s.ports q p) r) (at_each r inside) (λ t ts at mine d.
+        let l : end_of (from_at s.starts t.queue) (of_queue t.queue ts) + (writes t + descriptor_blocks t) ≤ (port_at (set s.ports q p) t.queue).head = leb-true _ _ d in
+        let l' = rw mine at l in l');
+    root = root_more known done_now h.log done_more s.root h.root;
+  }
 
 module _ (e : Entries) (s : State) (f : Facts e s) (q : ℕ) (own : q < s.geometry.queues) where
   abbrev k : KnownJournal
@@ -51,30 +102,7 @@ module _ (e : Entries) (s : State) (f : Facts e s) (q : ℕ) (own : q < s.geomet
     now = is_done s.starts (set s.ports q p)
 
     more : DoneMore k.done now s.history
-    more = record {
-      each = λ t ts at d. le-leb _ _ (elim (cases_eq t.queue q) [
-        | inl same ↦ (let l = leb-true _ _ d in let h : (port_at s.ports t.queue).head ≤ (port_at (set s.ports q p) t.queue).head = rw (same, port_same s.ports q p within) higher in omega arith)
-        | inr other ↦ rw (port_other s.ports q t.queue p other) (leb-true _ _ d)
-      ]);
-    }
-
-    sides : (r : ℕ) → r < s.geometry.queues → SideOk (known_of e (with p)) r (of_queue r s.history) (port_at (set s.ports q p) r)
-    sides r inside =
-        elim (cases_eq r q) [
-          | inl same ↦
-              let is : port_at (set s.ports q p) r ≡ p = ap (port_at (set s.ports q p)) same ∙ port_same s.ports q p within in
-              let mine : SideOk k r (of_queue r s.history) p = subst (λ n. SideOk k n (of_queue n s.history) p) (sym same) side in
-              subst (λ w. SideOk (known_of e (with p)) r (of_queue r s.history) w) (sym is)
-              (side_more k now f.log more r (of_queue r s.history) p mine (λ t ts at mineq d.
-              let l : end_of (from_at s.starts t.queue) (of_queue t.queue ts) + (writes t + descriptor_blocks t) ≤ (port_at (set s.ports q p) t.queue).head = leb-true _ _ d in
-              let l' = rw (mineq, is) at l in l'))
-          | inr other ↦
-              let is : port_at (set s.ports q p) r ≡ port_at s.ports r = port_other s.ports q r p other in
-              subst (λ w. SideOk (known_of e (with p)) r (of_queue r s.history) w) (sym is)
-              (side_more k now f.log more r (of_queue r s.history) (port_at s.ports r) (f.sides r inside) (λ t ts at mineq d.
-              let l : end_of (from_at s.starts t.queue) (of_queue t.queue ts) + (writes t + descriptor_blocks t) ≤ (port_at (set s.ports q p) t.queue).head = leb-true _ _ d in
-              let l' = rw (mineq, is) at l in l'))
-        ]
+    more = done_more e k.due s (sides_of e s f) q own p side higher
 
     unders : (x : ℕ) → is_among x s.writing ≡ true → IsUnder s x → IsUnder (with p) x
     unders x h u =
@@ -84,34 +112,9 @@ module _ (e : Entries) (s : State) (f : Facts e s) (q : ℕ) (own : q < s.geomet
           low = u.low;
           high = omega (arith, u.high, more_front);
           logged = u.logged;
-          loose = go_certain (zone_of s.geometry x) refl;
-          begun = go_begun (zone_of s.geometry x) refl;
+          loose = port_along (λ w. get_or w.certain (home_index s.geometry x) false ≡ false) s q p (zone_of s.geometry x) within (λ z. (writing x h z u).0) u.loose;
+          begun = port_along (λ w. holds_write (home_lba s.geometry x) w.begun ≡ true) s q p (zone_of s.geometry x) within (λ z. (writing x h z u).1) u.begun;
         }
-      where
-        there : (r : ℕ) → zone_of s.geometry x ≡ Some r → r ≢ q → port_at (set s.ports q p) r ≡ port_of s (zone_of s.geometry x)
-        there r z other = port_other s.ports q r p other ∙ sym (ap (port_of s) z)
-
-        here : (r : ℕ) → zone_of s.geometry x ≡ Some r → r ≡ q → port ≡ port_of s (zone_of s.geometry x)
-        here r z same = sym (ap (port_of s) z ∙ ap (port_at s.ports) same)
-
-        go_certain : (z : Option ℕ) → zone_of s.geometry x ≡ z → get_or (port_of (with p) z).certain (home_index s.geometry x) false ≡ false
-        go_certain None z = ap (λ (w : PortState). get_or w.certain (home_index s.geometry x) false) (sym (ap (port_of s) z)) ∙ u.loose
-        go_certain (Some r) z = elim (cases_eq r q) [
-          | inl same ↦
-              let at : port_at (set s.ports q p) r ≡ p = ap (port_at (set s.ports q p)) same ∙ port_same s.ports q p within in
-              ap (λ (w : PortState). get_or w.certain (home_index s.geometry x) false) at ∙ (writing x h (z ∙ ap Some same) u).0 (ap (λ (w : PortState). get_or w.certain (home_index s.geometry x) false) (here r z same) ∙ u.loose)
-          | inr other ↦ ap (λ (w : PortState). get_or w.certain (home_index s.geometry x) false) (there r z other) ∙ u.loose
-        ]
-
-        go_begun : (z : Option ℕ) → zone_of s.geometry x ≡ z → holds_write (home_lba s.geometry x) (port_of (with p) z).begun ≡ true
-        go_begun None z = ap (λ (w : PortState). holds_write (home_lba s.geometry x) w.begun) (sym (ap (port_of s) z)) ∙ u.begun
-        go_begun (Some r) z = elim (cases_eq r q) [
-          | inl same ↦
-              let at : port_at (set s.ports q p) r ≡ p = ap (port_at (set s.ports q p)) same ∙ port_same s.ports q p within in
-              ap (λ (w : PortState). holds_write (home_lba s.geometry x) w.begun) at
-              ∙ (writing x h (z ∙ ap Some same) u).1 (ap (λ (w : PortState). holds_write (home_lba s.geometry x) w.begun) (here r z same) ∙ u.begun)
-          | inr other ↦ ap (λ (w : PortState). holds_write (home_lba s.geometry x) w.begun) (there r z other) ∙ u.begun
-        ]
 
     pub port_front : front_of s ≤ front_of (with p)
     port_front = front_more k now f.log more
@@ -119,13 +122,14 @@ module _ (e : Entries) (s : State) (f : Facts e s) (q : ℕ) (own : q < s.geomet
     pub port_keeps : Facts e (with p)
     port_keeps =
         let more_front : front_of s ≤ front_of (with p) = front_more k now f.log more in
+        let new = sides_with e k.due s (sides_of e s f) q own p side higher in
         record {
           form = f.form;
-          log = log_more k now f.log more;
-          ports = length-set s.ports q p ∙ f.ports;
+          log = new.log;
+          ports = new.ports;
           marked = f.marked;
-          sides = sides;
-          root = root_more k now f.log more s.root f.root;
+          sides = new.sides;
+          root = new.root;
           marks = λ t ts at d. elim (cases_Bool (is_done s.starts s.ports t ts)) [
             | inl was ↦ absurd (false≢true (sym d ∙ more.each t ts at was))
             | inr undone ↦ f.marks t ts at undone
@@ -140,6 +144,9 @@ module _ (e : Entries) (s : State) (f : Facts e s) (q : ℕ) (own : q < s.geomet
 
   pub flush_keeps : Facts e (flush q s)
   flush_keeps = (let o = (f.sides q own).order in port_keeps (after_flush port) (side_flush k q (us_of s q) port (f.sides q own)) (omega (arith, o.stored)) (λ x among z u. (λ h. h, λ h. h)))
+
+  pub flush_front : front_of s ≤ front_of (flush q s)
+  flush_front = (let o = (f.sides q own).order in port_front (after_flush port) (side_flush k q (us_of s q) port (f.sides q own)) (omega (arith, o.stored)) (λ x among z u. (λ h. h, λ h. h)))
 
   pub store_head_keeps : (h : ℕ) → MayStoreHead (from_at s.starts q) (us_of s q) port h → Facts e (store_head q h s)
   store_head_keeps h may = port_keeps (after_store_head port h) (side_store_head k q (us_of s q) port h (f.sides q own) may) (omega arith) (λ x among z u. (λ h. h, λ h. h))

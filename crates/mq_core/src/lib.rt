@@ -9,6 +9,9 @@ mod port;
 
 pub use event::{CoreRefusal, Event};
 pub use laws::{every_run_is_lawful, prefixes_are_whole, reach_is_exact, starts};
-pub use machine::{Core, fresh_queues};
+pub use machine::{
+    Core, begin_write, drop_block, drop_changed, end_write, fresh_queues, holds_block, home_block,
+    settle_all,
+};
 pub use mq_ledger::{Blocks, Content, PlainEntry, Tx, Writes, copy_blocks, copy_content};
 pub use port::{PlainCommand, PlainHomeWrite, PlainPort};

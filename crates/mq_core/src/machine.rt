@@ -14,8 +14,12 @@ ghost use Rattle.mq_ledger.specs.State.{IsLawful};
 ghost use Rattle.mq_core.specs.Start.{start_state, fresh_ports};
 
 use crate::PlainPort;
+pub use bases::home_block;
+pub use front::settle_all;
+pub use homes::{begin_write, drop_block, end_write, holds_block};
 use mq_blocks::{BlockNo, Geometry, OutOfMemory, QueueNo, TxNo};
 use mq_ledger::{Content, Ledger, copy_blocks, repeated};
+pub use numbers::drop_changed;
 use std::alloc::Global;
 use std::marker::Model;
 

@@ -1,34 +1,34 @@
 -- Draw, Acknowledge, home writes and bases keep the facts of the whole loose state.
-use Rattle.std.proofs.Common.{◌≡◌, ◌≢◌, ℕ, ◌<◌, ◌≤◌, true, false, Bool, List, [], ◌∷◌, ◌++◌, length, get_or, set, Option, Some, None, sym, refl, ap, subst, ◌∙◌, inl, inr, arith, eqb}
-use Rattle.std.proofs.lemmas.Bool.{cases_lt, cases_eq, cases_Bool, lt-leb, eqb-true, eq-eqb, ne_eqb, false≢true}
+use Rattle.std.proofs.Common.{◌≡◌, ◌≢◌, ℕ, ◌<◌, ◌≤◌, true, false, Bool, List, [], ◌∷◌, length, get_or, set, Option, Some, None, sym, refl, ap, subst, ◌∙◌, inl, inr, arith, eqb}
+use Rattle.std.proofs.lemmas.Bool.{cases_lt, cases_eq, cases_Bool, lt-leb, eqb-true, false≢true}
 use Rattle.std.proofs.lemmas.List.{get_or-set_same, get_or-set_other}
-use Rattle.mq_blocks.specs.Drive.{PortState, after_flush, after_store_base, holds_write, without_last, index_of}
+use Rattle.mq_blocks.specs.Drive.{PortState, after_flush, after_store_base, holds_write, index_of}
 use Rattle.mq_blocks.specs.Geometry.{homes_of, zone_of, home_lba}
 use Rattle.mq_blocks.specs.Journal.{is_among}
 use Rattle.mq_blocks.specs.declared.command.HomeWrite.{HomeWrite}
 use Rattle.mq_blocks.proofs.DriveBegun.{begun_new}
-use Rattle.mq_ledger.specs.History.{changes, map_after, last, upto, of_queue}
+use Rattle.mq_ledger.specs.History.{map_after, last, upto, of_queue}
 use Rattle.mq_ledger.specs.Items.{Entries}
 use Rattle.mq_ledger.specs.KnownJournal.{front, draw_known, MayDraw}
-use Rattle.mq_ledger.specs.Sides.{SideOk, Certainly, home_index, home_index_in}
+use Rattle.mq_ledger.specs.Sides.{SideOk, Certainly, home_index}
 use Rattle.mq_ledger.specs.State.{State, is_done, port_at, port_of, from_at, front_of, start_map}
 use Rattle.mq_ledger.specs.declared.tx.Tx.{Tx}
 use Rattle.mq_ledger.proofs.History.{last_le, last-same, last_upto_le, upto-past, value_settled}
 use Rattle.mq_ledger.proofs.Items.{of_queue-own, of_queue-other}
-use Rattle.mq_core.specs.Events.{with_port, us_of, draw, acknowledge, write_home, home_done, store_base, flush_base, begin_home, end_home, content_at, unchanged_by, without, HasRoom, MayStoreBase}
+use Rattle.mq_core.specs.Events.{with_port, us_of, draw, acknowledge, write_home, home_done, store_base, flush_base, begin_home, end_home, content_at, without, HasRoom, MayStoreBase}
 use Rattle.mq_core.proofs.EventsPorts.{certainly_along, index-zone, index-root, zone-apart}
 use Rattle.mq_core.proofs.KnownJournalGrowth.{front_drawn, front_low, side_drawn, root_drawn, log_drawn, side_extends}
 use Rattle.mq_core.proofs.HistoryBases.{log_based, side_based}
-use Rattle.mq_core.proofs.Homes.{AreElse, written_to, else_begin, else_end}
-use Rattle.mq_core.proofs.StateEvents.{zone-queue}
+use Rattle.mq_core.proofs.Homes.{AreElse, certainly_else, written_to, root-apart, root_free, side_free, else_begin, else_end}
+use Rattle.mq_core.proofs.StateEvents.{begun_append, begun_left, unchanged_among, without_among, zone-queue}
 use Rattle.mq_core.proofs.StateBases.{logged_value}
 use Rattle.mq_loose.specs.Safe.{NoneChanges}
 use Rattle.mq_loose.specs.Guards.{entries_in, side_known, settled, IsDrawable, MayWriteHome}
 use Rattle.mq_loose.specs.Safe.{IsABase, IsPlain, IsUnder, Facts}
 use Rattle.mq_loose.proofs.Closures.{closure_front}
 use Rattle.mq_loose_order.proofs.Closed.{closure_still}
-use Rattle.mq_loose.proofs.Homes.{last_from, last_within, at_upto, home_else, side_written, root_written}
-use Rattle.mq_core.proofs.StatePorts.{port_same}
+use Rattle.mq_loose.proofs.Homes.{last_from, last_within, at_upto, free_always}
+use Rattle.mq_core.proofs.StatePorts.{port_same, root_along}
 use Rattle.mq_ledger.specs.History.{AreNumbered}
 use Rattle.mq_ledger.specs.Items.{descriptor_for}
 use Rattle.mq_ledger.proofs.History.{at_most}
@@ -40,16 +40,6 @@ use Rattle.mq_loose.proofs.Forms.{AreSameTexts, formed, side_formed, root_formed
 use Rattle.mq_loose.proofs.Ports.{port_keeps, port_settles}
 
 -- ---- a draw
-
-unchanged_among : (t : Tx) (xs : List ℕ) (x : ℕ) → is_among x (unchanged_by t xs) ≡ true → (is_among x xs ≡ true) × (changes t x ≡ false)
-unchanged_among t [] x e = absurd (false≢true e)
-unchanged_among t (y ∷ ys) x e = elim (cases_Bool (changes t y)) [
-  | inl c ↦ (let r = unchanged_among t ys x (rw c at e) in (elim (cases_Bool (eqb y x)) [ inl s ↦ rw s refl | inr o ↦ rw o r.0 ], r.1))
-  | inr c ↦ (let e' = rw c at e in elim (cases_Bool (eqb y x)) [
-    | inl s ↦ (rw s refl, subst (λ z. changes t z ≡ false) (eqb-true _ _ s) c)
-    | inr o ↦ (let r = unchanged_among t ys x (rw o at e') in (rw o r.0, r.1))
-  ])
-]
 
 base_low : (e : Entries) (s : State) (v : ℕ) → Facts e s → IsABase s v → v ≤ front_of s
 base_low e s v f (inl is) = (let o = f.root.bases.1 in omega (arith, is, o, f.reached))
@@ -182,9 +172,6 @@ exempt e s x f low st v base none =
     ] in
     absurd (omega (arith, l, r.number, high))
 
-root-apart : (s : State) (x y : ℕ) → zone_of s.geometry x ≡ None → zone_of s.geometry y ≡ None → home_index s.geometry y ≡ home_index s.geometry x → y ≡ x
-root-apart s x y zx zy same = sym (ap (λ w. home_index_in s.geometry w y) zy) ∙ (same ∙ ap (λ w. home_index_in s.geometry w x) zx)
-
 -- what home writes under way see of a port whose blocks changed
 abbrev StaysLoose : State → Option ℕ → List Bool → List HomeWrite → Type 0
 StaysLoose s z certain begun =
@@ -200,9 +187,12 @@ root_keeps e s x blocks certain begun begins zone f free els stays =
       plain = f.plain;
       ports = f.ports;
       sides = f.sides;
-      root = root_written (side_known e s) s.root (home_index s.geometry x) blocks certain begun begins (λ y v. refl) f.root els;
+      root = root_free (side_known e s) s.root x blocks certain begun begins f.root zone (free_always (side_known e s) x f.plain (λ y v. refl)) els;
       reached = f.reached;
-      homes = λ y v content inside base there none. go y v content base none (zone_of s.geometry y) refl (f.homes y v content inside base there none);
+      homes = λ y v content inside base there none.
+          root_along (λ w. Certainly w (home_index s.geometry y) content) s (written_to s.root blocks certain begun begins) (zone_of s.geometry y)
+          (λ z c. certainly_else s.root (home_index s.geometry x) (home_index s.geometry y) content blocks certain begun begins els (λ same. free v base (subst (λ n. NoneChanges (settled s) s.history n v) (root-apart s.geometry x y zone z same) none)) c)
+          (f.homes y v content inside base there none);
       writing = λ y h.
           let u = f.writing y h in
           record {
@@ -210,26 +200,11 @@ root_keeps e s x blocks certain begun begins zone f free els stays =
             low = u.low;
             settled_is = u.settled_is;
             logged = u.logged;
-            loose = go_certain y h u (zone_of s.geometry y) refl;
-            begun = go_begun y h u (zone_of s.geometry y) refl;
+            loose = root_along (λ w. get_or w.certain (home_index s.geometry y) false ≡ false) s (written_to s.root blocks certain begun begins) (zone_of s.geometry y) (λ z. (stays y h z).0) u.loose;
+            begun = root_along (λ w. holds_write (home_lba s.geometry y) w.begun ≡ true) s (written_to s.root blocks certain begun begins) (zone_of s.geometry y) (λ z. (stays y h z).1) u.begun;
           };
       acknowledged = f.acknowledged;
     }
-  where
-    later : State
-    later = record s { root = written_to s.root blocks certain begun begins }
-
-    go : (y v : ℕ) (content : List ℕ) → IsABase s v → NoneChanges (settled s) s.history y v → (z : Option ℕ) → zone_of s.geometry y ≡ z → Certainly (port_of s z) (home_index s.geometry y) content → Certainly (port_of (record s { root = written_to s.root blocks certain begun begins }) z) (home_index s.geometry y) content
-    go y v content base none None z c = home_else s.root (home_index s.geometry x) (home_index s.geometry y) content blocks certain begun begins els (λ same. free v base (subst (λ n. NoneChanges (settled s) s.history n v) (root-apart s x y zone z same) none)) c
-    go y v content base none (Some r) z c = c
-
-    go_certain : (y : ℕ) → is_among y s.writing ≡ true → IsUnder s y → (z : Option ℕ) → zone_of s.geometry y ≡ z → get_or (port_of (record s { root = written_to s.root blocks certain begun begins }) z).certain (home_index s.geometry y) false ≡ false
-    go_certain y h u None z = (stays y h z).0 (ap (λ (w : PortState). get_or w.certain (home_index s.geometry y) false) (sym (ap (port_of s) z)) ∙ u.loose)
-    go_certain y h u (Some r) z = ap (λ (w : PortState). get_or w.certain (home_index s.geometry y) false) (sym (ap (port_of s) z)) ∙ u.loose
-
-    go_begun : (y : ℕ) → is_among y s.writing ≡ true → IsUnder s y → (z : Option ℕ) → zone_of s.geometry y ≡ z → holds_write (home_lba s.geometry y) (port_of (record s { root = written_to s.root blocks certain begun begins }) z).begun ≡ true
-    go_begun y h u None z = (stays y h z).1 (ap (λ (w : PortState). holds_write (home_lba s.geometry y) w.begun) (sym (ap (port_of s) z)) ∙ u.begun)
-    go_begun y h u (Some r) z = ap (λ (w : PortState). holds_write (home_lba s.geometry y) w.begun) (sym (ap (port_of s) z)) ∙ u.begun
 
 -- the port of a block, with other blocks
 pub home_keeps : (e : Entries) (s : State) (x : ℕ) (z : Option ℕ) (blocks : List (Option (List ℕ))) (certain : List Bool) (begun : List HomeWrite) (begins : ℕ) → zone_of s.geometry x ≡ z → x < homes_of s.geometry → Facts e s → IsExempt s x → AreElse (port_of s z) (home_index s.geometry x) blocks certain → StaysLoose s z certain begun
@@ -238,35 +213,11 @@ home_keeps e s x None blocks certain begun begins zone inside f free els stays =
 home_keeps e s x (Some q) blocks certain begun begins zone inside f free els stays =
     let own = zone-queue s.geometry q x inside zone in
     let p = port_at s.ports q in
-    let side = side_written (side_known e s) q (us_of s q) p x blocks certain begun begins f.plain (λ y v. refl) (f.sides q own) zone els in
-    let homes : (y v : ℕ) (content : List ℕ) → y < homes_of s.geometry → zone_of s.geometry y ≡ Some q → IsABase s v → NoneChanges (settled s) s.history y v → Certainly p (home_index s.geometry y) content → Certainly (written_to p blocks certain begun begins) (home_index s.geometry y) content = λ y v content low z base none c. home_else p (home_index s.geometry x) (home_index s.geometry y) content blocks certain begun begins els (λ same. free v base (subst (λ n. NoneChanges (settled s) s.history n v) (zone-apart s.geometry q y x z zone same) none)) c in (
+    let side = side_free (side_known e s) q (us_of s q) p x blocks certain begun begins f.log (f.sides q own) zone (free_always (side_known e s) x f.plain (λ y v. refl)) els in
+    let homes : (y v : ℕ) (content : List ℕ) → y < homes_of s.geometry → zone_of s.geometry y ≡ Some q → IsABase s v → NoneChanges (settled s) s.history y v → Certainly p (home_index s.geometry y) content → Certainly (written_to p blocks certain begun begins) (home_index s.geometry y) content = λ y v content low z base none c. certainly_else p (home_index s.geometry x) (home_index s.geometry y) content blocks certain begun begins els (λ same. free v base (subst (λ n. NoneChanges (settled s) s.history n v) (zone-apart s.geometry q y x z zone same) none)) c in (
       port_keeps e s f q own (written_to p blocks certain begun begins) side (omega arith) homes stays,
       port_settles e s f q own (written_to p blocks certain begun begins) side (omega arith) homes stays,
     )
-
-begun_append : (lba : ℕ) (ws : List HomeWrite) (w : HomeWrite) → holds_write lba ws ≡ true → holds_write lba (ws ++ w ∷ []) ≡ true
-begun_append lba [] w h = absurd (false≢true h)
-begun_append lba (v ∷ ws) w h = elim (cases_Bool (eqb v.lba lba)) [
-  | inl same ↦ rw same refl
-  | inr other ↦ rw other (begun_append lba ws w (rw other at h))
-]
-
-begun_left : (lba other : ℕ) (ws : List HomeWrite) → lba ≢ other → holds_write lba ws ≡ true → holds_write lba (without_last other ws) ≡ true
-begun_left lba other [] apart h = h
-begun_left lba other (w ∷ ws) apart h =
-    elim (cases_Bool (holds_write other ws)) [
-      | inl more ↦ rw more (first (λ r. begun_left lba other ws apart r))
-      | inr last ↦ rw last (elim (cases_Bool (eqb w.lba other)) [
-        | inl same ↦ rw same (let is = eqb-true _ _ same in rw (ne_eqb w.lba lba (λ e. apart (sym e ∙ is))) at h)
-        | inr not ↦ rw not h
-      ])
-    ]
-  where
-    first : (holds_write lba ws ≡ true → holds_write lba (without_last other ws) ≡ true) → holds_write lba (w ∷ without_last other ws) ≡ true
-    first rest = elim (cases_Bool (eqb w.lba lba)) [
-      | inl same ↦ rw same refl
-      | inr not ↦ rw not (rest (rw not at h))
-    ]
 
 -- where the block stands on its port
 record StandsAt (s : State) (x : ℕ) (z : Option ℕ) : Type 0 where
@@ -286,7 +237,7 @@ stands_at e s x (Some q) f zone inside =
 
 -- two blocks of one port
 home-apart : (s : State) (x y : ℕ) (z : Option ℕ) → zone_of s.geometry x ≡ z → zone_of s.geometry y ≡ z → home_index s.geometry y ≡ home_index s.geometry x → y ≡ x
-home-apart s x y None zx zy same = root-apart s x y zx zy same
+home-apart s x y None zx zy same = root-apart s.geometry x y zx zy same
 home-apart s x y (Some q) zx zy same = zone-apart s.geometry q y x zy zx same
 
 port_is : (s : State) (z : Option ℕ) (p : PortState) → ((q : ℕ) → z ≡ Some q → q < length s.ports) → port_of (with_port s z p) z ≡ p
@@ -345,16 +296,6 @@ write_home_keeps e s x f may = go (zone_of s.geometry x) refl
         let is : port_of (with_port s z b) z ≡ b = port_is s z b (λ q zq. (let own = zone-queue s.geometry q x may.block (zone ∙ zq) in let n = f.ports in omega (arith, own, n))) in
         more_under e s x z b k.0 (under_at s x z b (λ none. ap (λ w. (port_of s w).stored_base) none) zone may k.1 is fresh (begun_new (home_lba s.geometry x) p.begun _ refl))
 
-without_among : (x : ℕ) (ys : List ℕ) (y : ℕ) → is_among y (without x ys) ≡ true → (is_among y ys ≡ true) × (y ≢ x)
-without_among x [] y h = absurd (false≢true h)
-without_among x (z ∷ zs) y h = elim (cases_Bool (eqb z x)) [
-  | inl c ↦ (let r = without_among x zs y (rw c at h) in (elim (cases_Bool (eqb z y)) [ inl s ↦ rw s refl | inr o ↦ rw o r.0 ], r.1))
-  | inr c ↦ (let h' = rw c at h in elim (cases_Bool (eqb z y)) [
-    | inl s ↦ (rw s refl, λ k. false≢true (sym c ∙ eq-eqb z x (eqb-true _ _ s ∙ k)))
-    | inr o ↦ (let r = without_among x zs y (rw o at h') in (rw o r.0, r.1))
-  ])
-]
-
 pub home_done_keeps : (e : Entries) (s : State) (x : ℕ) → Facts e s → is_among x s.writing ≡ true → Facts e (home_done x s)
 home_done_keeps e s x f is = go (zone_of s.geometry x) refl
   where
@@ -384,11 +325,6 @@ home_done_keeps e s x f is = go (zone_of s.geometry x) refl
         done (Some q) g = g
 
 -- ---- bases
-
--- the root's port with other bases
-certainly_root : (s : State) (p : PortState) (x : ℕ) (content : List ℕ) (z : Option ℕ) → p.homes_first ≡ s.root.homes_first → ((lba : ℕ) → index_of p lba ≡ index_of s.root lba) → p.certain ≡ s.root.certain → p.blocks ≡ s.root.blocks → p.posted ≡ s.root.posted → Certainly (port_of s z) x content → Certainly (port_of (record s { root = p }) z) x content
-certainly_root s p x content None first index certain blocks posted c = certainly_along s.root p x content index certain blocks posted c
-certainly_root s p x content (Some q) first index certain blocks posted c = c
 
 -- it is below the last change of each block with a home write under way
 low_enough : (e : Entries) (s : State) (b x : ℕ) → Facts e s → MayStoreBase e s b → IsUnder s x → b < last s.base s.history x
@@ -434,7 +370,7 @@ store_base_keeps e s b f may =
       };
       reached = may.reached;
       homes = λ x v content inside is there none.
-          certainly_root s (after_store_base s.root b) (home_index s.geometry x) content (zone_of s.geometry x) refl (λ lba. refl) refl refl refl (elim is [
+          root_along (λ w. Certainly w (home_index s.geometry x) content) s (after_store_base s.root b) (zone_of s.geometry x) (λ z c. certainly_along s.root (after_store_base s.root b) (home_index s.geometry x) content (λ lba. refl) refl refl refl c) (elim is [
             | inl old ↦ f.homes x v content inside (inl old) there none
             | inr new ↦
                 let there' : map_after (start_map s.start) (upto b s.history) x ≡ Some content = subst (λ n. map_after (start_map s.start) (upto n s.history) x ≡ Some content) new there in
@@ -450,19 +386,11 @@ store_base_keeps e s b f may =
             low = low_enough e s b x f may u;
             settled_is = u.settled_is;
             logged = u.logged;
-            loose = go_certain x u (zone_of s.geometry x) refl;
-            begun = go_begun x u (zone_of s.geometry x) refl;
+            loose = root_along (λ w. get_or w.certain (home_index s.geometry x) false ≡ false) s (after_store_base s.root b) (zone_of s.geometry x) (λ z c. c) u.loose;
+            begun = root_along (λ w. holds_write (home_lba s.geometry x) w.begun ≡ true) s (after_store_base s.root b) (zone_of s.geometry x) (λ z c. c) u.begun;
           };
       acknowledged = f.acknowledged;
     }
-  where
-    go_certain : (x : ℕ) → IsUnder s x → (z : Option ℕ) → zone_of s.geometry x ≡ z → get_or (port_of (store_base b s) z).certain (home_index s.geometry x) false ≡ false
-    go_certain x u None z = ap (λ (w : PortState). get_or w.certain (home_index s.geometry x) false) (sym (ap (port_of s) z)) ∙ u.loose
-    go_certain x u (Some r) z = ap (λ (w : PortState). get_or w.certain (home_index s.geometry x) false) (sym (ap (port_of s) z)) ∙ u.loose
-
-    go_begun : (x : ℕ) → IsUnder s x → (z : Option ℕ) → zone_of s.geometry x ≡ z → holds_write (home_lba s.geometry x) (port_of (store_base b s) z).begun ≡ true
-    go_begun x u None z = ap (λ (w : PortState). holds_write (home_lba s.geometry x) w.begun) (sym (ap (port_of s) z)) ∙ u.begun
-    go_begun x u (Some r) z = ap (λ (w : PortState). holds_write (home_lba s.geometry x) w.begun) (sym (ap (port_of s) z)) ∙ u.begun
 
 pub flush_base_keeps : (e : Entries) (s : State) → Facts e s → Facts e (flush_base s)
 flush_base_keeps e s f =
@@ -494,7 +422,7 @@ flush_base_keeps e s f =
       };
       reached = f.reached;
       homes = λ x v content inside is there none.
-          certainly_root s (after_flush s.root) (home_index s.geometry x) content (zone_of s.geometry x) refl (λ lba. refl) refl refl refl (f.homes x v content inside (elim is [ inl a ↦ inr a | inr a ↦ inr a ]) there none);
+          root_along (λ w. Certainly w (home_index s.geometry x) content) s (after_flush s.root) (zone_of s.geometry x) (λ z c. certainly_along s.root (after_flush s.root) (home_index s.geometry x) content (λ lba. refl) refl refl refl c) (f.homes x v content inside (elim is [ inl a ↦ inr a | inr a ↦ inr a ]) there none);
       writing = λ x h.
           let u = f.writing x h in
           record {
@@ -502,16 +430,8 @@ flush_base_keeps e s f =
             low = u.low;
             settled_is = u.settled_is;
             logged = u.logged;
-            loose = go_certain x u (zone_of s.geometry x) refl;
-            begun = go_begun x u (zone_of s.geometry x) refl;
+            loose = root_along (λ w. get_or w.certain (home_index s.geometry x) false ≡ false) s (after_flush s.root) (zone_of s.geometry x) (λ z c. c) u.loose;
+            begun = root_along (λ w. holds_write (home_lba s.geometry x) w.begun ≡ true) s (after_flush s.root) (zone_of s.geometry x) (λ z c. c) u.begun;
           };
       acknowledged = f.acknowledged;
     }
-  where
-    go_certain : (x : ℕ) → IsUnder s x → (z : Option ℕ) → zone_of s.geometry x ≡ z → get_or (port_of (flush_base s) z).certain (home_index s.geometry x) false ≡ false
-    go_certain x u None z = ap (λ (w : PortState). get_or w.certain (home_index s.geometry x) false) (sym (ap (port_of s) z)) ∙ u.loose
-    go_certain x u (Some r) z = ap (λ (w : PortState). get_or w.certain (home_index s.geometry x) false) (sym (ap (port_of s) z)) ∙ u.loose
-
-    go_begun : (x : ℕ) → IsUnder s x → (z : Option ℕ) → zone_of s.geometry x ≡ z → holds_write (home_lba s.geometry x) (port_of (flush_base s) z).begun ≡ true
-    go_begun x u None z = ap (λ (w : PortState). holds_write (home_lba s.geometry x) w.begun) (sym (ap (port_of s) z)) ∙ u.begun
-    go_begun x u (Some r) z = ap (λ (w : PortState). holds_write (home_lba s.geometry x) w.begun) (sym (ap (port_of s) z)) ∙ u.begun

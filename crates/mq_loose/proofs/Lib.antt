@@ -1,18 +1,15 @@
 pub mod Closures
 pub mod Homes
 pub mod Forms
+mod Sides
 pub mod Ports
 pub mod Events
 pub mod Cuts
 pub mod Rows
 pub mod Safe
 pub mod Runs
-mod Lifts
-mod Within
-mod Fronts
+mod Machines
 mod Tellings
-mod HomeCalls
-mod Bases
 mod Running
 mod Starts
 mod RowLists

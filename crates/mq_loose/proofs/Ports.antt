@@ -1,13 +1,12 @@
 -- The events on a queue's port keep the facts of the whole loose state.
-use Rattle.std.proofs.Common.{◌≡◌, ◌≢◌, ℕ, ◌+◌, ◌<◌, ◌≤◌, true, false, Bool, List, length, get_or, set, Option, Some, None, sym, refl, ap, subst, ◌∙◌, inl, inr, arith}
-use Rattle.std.proofs.lemmas.Bool.{cases_eq, le-leb, leb-true}
-use Rattle.std.proofs.lemmas.List.{length-set, get_or-set_other}
+use Rattle.std.proofs.Common.{◌≡◌, ◌≢◌, ℕ, ◌<◌, ◌≤◌, true, false, List, length, get_or, set, Option, Some, sym, refl, ap, ◌∙◌, arith}
+use Rattle.std.proofs.lemmas.List.{get_or-set_other}
 use Rattle.mq_blocks.specs.Drive.{PortState, holds_write, index_of, staged_end, after_flush, after_ring, after_store_head}
 use Rattle.mq_blocks.specs.Geometry.{homes_of, zone_of, home_lba}
 use Rattle.mq_blocks.specs.Journal.{is_among}
 use Rattle.mq_blocks.specs.declared.command.Command.{Command}
-use Rattle.mq_ledger.specs.History.{writes, of_queue, IsAt}
-use Rattle.mq_ledger.specs.Items.{Entries, end_of, descriptor_blocks}
+use Rattle.mq_ledger.specs.History.{IsAt}
+use Rattle.mq_ledger.specs.Items.{Entries}
 use Rattle.mq_ledger.specs.KnownJournal.{KnownJournal}
 use Rattle.mq_ledger.specs.Sides.{SideOk, Certainly, home_index}
 use Rattle.mq_ledger.specs.State.{State, is_done, port_at, port_of, from_at, front_of}
@@ -16,8 +15,8 @@ use Rattle.mq_core.specs.Events.{with_port, us_of, stage, flush, ring, complete,
 use Rattle.mq_core.proofs.SidesCommands.{own_with, apart_own, count_range, counted_next}
 use Rattle.mq_core.proofs.EventsPorts.{certainly_ring, certainly_complete, certainly_fail}
 use Rattle.mq_core.proofs.HistoryFronts.{DoneMore}
-use Rattle.mq_core.proofs.StatePorts.{port_same, port_other}
-use Rattle.mq_core.proofs.KnownJournalGrowth.{front_more, log_more, side_more, root_more}
+use Rattle.mq_core.proofs.StatePorts.{done_more, sides_with, port_along}
+use Rattle.mq_core.proofs.KnownJournalGrowth.{front_more}
 use Rattle.mq_core.proofs.EventsSides.{IsSame, certainly_same, side_stage, side_flush, side_store_head}
 use Rattle.mq_core.proofs.EventsSideCommands.{side_ring, side_complete, side_fail, apart_home, posted_late}
 use Rattle.mq_loose.specs.Safe.{NoneChanges}
@@ -25,6 +24,7 @@ use Rattle.mq_loose.specs.Guards.{entries_in, side_known, settled}
 use Rattle.mq_loose.specs.Safe.{IsABase, IsUnder, IsPlain, Facts}
 use Rattle.mq_loose.proofs.Closures.{closure_more}
 use Rattle.mq_loose.proofs.Homes.{no_direct}
+use Rattle.mq_loose.proofs.Sides.{sides_of}
 
 module _ (e : Entries) (s : State) (f : Facts e s) (q : ℕ) (own : q < s.geometry.queues) where
   abbrev k : KnownJournal
@@ -51,47 +51,14 @@ module _ (e : Entries) (s : State) (f : Facts e s) (q : ℕ) (own : q < s.geomet
       × (holds_write (home_lba s.geometry x) port.begun ≡ true → holds_write (home_lba s.geometry x) p.begun ≡ true)
 
   module _ (p : PortState) (side : SideOk k q (us_of s q) p) (higher : port.head ≤ p.head) (homes : StaysHome p) (writing : StaysUnder p) where
-    abbrev now : Tx → List Tx → Bool
-    now = is_done s.starts (set s.ports q p)
-
-    more : DoneMore k.done now s.history
-    more = record {
-      each = λ t ts at d. le-leb _ _ (elim (cases_eq t.queue q) [
-        | inl same ↦ (let l = leb-true _ _ d in let h : (port_at s.ports t.queue).head ≤ (port_at (set s.ports q p) t.queue).head = rw (same, port_same s.ports q p within) higher in omega arith)
-        | inr other ↦ rw (port_other s.ports q t.queue p other) (leb-true _ _ d)
-      ]);
-    }
+    more : DoneMore k.done (is_done s.starts (set s.ports q p)) s.history
+    more = done_more (entries_in e s) (λ x v. false) s (sides_of e s f) q own p side higher
 
     still_settled : (n : ℕ) → settled s n ≡ true → settled (with p) n ≡ true
-    still_settled n st = closure_more k.done now s.base s.history n f.log.numbers more st
-
-    sides : (r : ℕ) → r < s.geometry.queues → SideOk (side_known e (with p)) r (of_queue r s.history) (port_at (set s.ports q p) r)
-    sides r inside =
-        elim (cases_eq r q) [
-          | inl same ↦
-              let is : port_at (set s.ports q p) r ≡ p = ap (port_at (set s.ports q p)) same ∙ port_same s.ports q p within in
-              let mine : SideOk k r (of_queue r s.history) p = subst (λ n. SideOk k n (of_queue n s.history) p) (sym same) side in
-              subst (λ w. SideOk (side_known e (with p)) r (of_queue r s.history) w) (sym is)
-              (side_more k now f.log more r (of_queue r s.history) p mine (λ t ts at mineq d.
-              let l : end_of (from_at s.starts t.queue) (of_queue t.queue ts) + (writes t + descriptor_blocks t) ≤ (port_at (set s.ports q p) t.queue).head = leb-true _ _ d in
-              let l' = rw (mineq, is) at l in l'))
-          | inr other ↦
-              let is : port_at (set s.ports q p) r ≡ port_at s.ports r = port_other s.ports q r p other in
-              subst (λ w. SideOk (side_known e (with p)) r (of_queue r s.history) w) (sym is)
-              (side_more k now f.log more r (of_queue r s.history) (port_at s.ports r) (f.sides r inside) (λ t ts at mineq d.
-              let l : end_of (from_at s.starts t.queue) (of_queue t.queue ts) + (writes t + descriptor_blocks t) ≤ (port_at (set s.ports q p) t.queue).head = leb-true _ _ d in
-              let l' = rw (mineq, is) at l in l'))
-        ]
+    still_settled n st = closure_more k.done (is_done s.starts (set s.ports q p)) s.base s.history n f.log.numbers more st
 
     home_in : (z : Option ℕ) (x v : ℕ) (content : List ℕ) → zone_of s.geometry x ≡ z → x < homes_of s.geometry → IsABase s v → NoneChanges (settled s) s.history x v → Certainly (port_of s z) (home_index s.geometry x) content → Certainly (port_of (with p) z) (home_index s.geometry x) content
-    home_in None x v content z inside base none c = c
-    home_in (Some r) x v content z inside base none c = elim (cases_eq r q) [
-      | inl same ↦
-          let is : port_at (set s.ports q p) r ≡ p = ap (port_at (set s.ports q p)) same ∙ port_same s.ports q p within in
-          let there : Certainly port (home_index s.geometry x) content = subst (λ n. Certainly (port_at s.ports n) (home_index s.geometry x) content) same c in
-          subst (λ w. Certainly w (home_index s.geometry x) content) (sym is) (homes x v content inside (z ∙ ap Some same) base none there)
-      | inr other ↦ subst (λ w. Certainly w (home_index s.geometry x) content) (sym (port_other s.ports q r p other)) c
-    ]
+    home_in z x v content is inside base none c = port_along (λ w. Certainly w (home_index s.geometry x) content) s q p z within (λ own c. homes x v content inside (is ∙ own) base none c) c
 
     unders : (x : ℕ) → is_among x s.writing ≡ true → IsUnder s x → IsUnder (with p) x
     unders x h u =
@@ -100,44 +67,20 @@ module _ (e : Entries) (s : State) (f : Facts e s) (q : ℕ) (own : q < s.geomet
           low = u.low;
           settled_is = still_settled _ u.settled_is;
           logged = u.logged;
-          loose = go_certain (zone_of s.geometry x) refl;
-          begun = go_begun (zone_of s.geometry x) refl;
+          loose = port_along (λ w. get_or w.certain (home_index s.geometry x) false ≡ false) s q p (zone_of s.geometry x) within (λ z. (writing x h z).0) u.loose;
+          begun = port_along (λ w. holds_write (home_lba s.geometry x) w.begun ≡ true) s q p (zone_of s.geometry x) within (λ z. (writing x h z).1) u.begun;
         }
-      where
-        there : (r : ℕ) → zone_of s.geometry x ≡ Some r → r ≢ q → port_at (set s.ports q p) r ≡ port_of s (zone_of s.geometry x)
-        there r z other = port_other s.ports q r p other ∙ sym (ap (port_of s) z)
-
-        here : (r : ℕ) → zone_of s.geometry x ≡ Some r → r ≡ q → port ≡ port_of s (zone_of s.geometry x)
-        here r z same = sym (ap (port_of s) z ∙ ap (port_at s.ports) same)
-
-        go_certain : (z : Option ℕ) → zone_of s.geometry x ≡ z → get_or (port_of (with p) z).certain (home_index s.geometry x) false ≡ false
-        go_certain None z = ap (λ (w : PortState). get_or w.certain (home_index s.geometry x) false) (sym (ap (port_of s) z)) ∙ u.loose
-        go_certain (Some r) z = elim (cases_eq r q) [
-          | inl same ↦
-              let at : port_at (set s.ports q p) r ≡ p = ap (port_at (set s.ports q p)) same ∙ port_same s.ports q p within in
-              ap (λ (w : PortState). get_or w.certain (home_index s.geometry x) false) at ∙ (writing x h (z ∙ ap Some same)).0 (ap (λ (w : PortState). get_or w.certain (home_index s.geometry x) false) (here r z same) ∙ u.loose)
-          | inr other ↦ ap (λ (w : PortState). get_or w.certain (home_index s.geometry x) false) (there r z other) ∙ u.loose
-        ]
-
-        go_begun : (z : Option ℕ) → zone_of s.geometry x ≡ z → holds_write (home_lba s.geometry x) (port_of (with p) z).begun ≡ true
-        go_begun None z = ap (λ (w : PortState). holds_write (home_lba s.geometry x) w.begun) (sym (ap (port_of s) z)) ∙ u.begun
-        go_begun (Some r) z = elim (cases_eq r q) [
-          | inl same ↦
-              let at : port_at (set s.ports q p) r ≡ p = ap (port_at (set s.ports q p)) same ∙ port_same s.ports q p within in
-              ap (λ (w : PortState). holds_write (home_lba s.geometry x) w.begun) at
-              ∙ (writing x h (z ∙ ap Some same)).1 (ap (λ (w : PortState). holds_write (home_lba s.geometry x) w.begun) (here r z same) ∙ u.begun)
-          | inr other ↦ ap (λ (w : PortState). holds_write (home_lba s.geometry x) w.begun) (there r z other) ∙ u.begun
-        ]
 
     pub port_keeps : Facts e (with p)
     port_keeps =
-        let front : front_of s ≤ front_of (with p) = front_more k now f.log more in
+        let front : front_of s ≤ front_of (with p) = front_more k (is_done s.starts (set s.ports q p)) f.log more in
+        let new = sides_with (entries_in e s) (λ x v. false) s (sides_of e s f) q own p side higher in
         record {
-          log = log_more k now f.log more;
+          log = new.log;
           plain = f.plain;
-          ports = length-set s.ports q p ∙ f.ports;
-          sides = sides;
-          root = root_more k now f.log more s.root f.root;
+          ports = new.ports;
+          sides = new.sides;
+          root = new.root;
           reached = omega (arith, f.reached, front);
           homes = λ x v content inside base there none.
               let before : NoneChanges (settled s) s.history x v = λ t ts at st ch. none t ts at (still_settled t.number st) ch in
@@ -147,7 +90,7 @@ module _ (e : Entries) (s : State) (f : Facts e s) (q : ℕ) (own : q < s.geomet
         }
 
     pub port_front : front_of s ≤ front_of (with p)
-    port_front = front_more k now f.log more
+    port_front = front_more k (is_done s.starts (set s.ports q p)) f.log more
 
     pub port_settles : (n : ℕ) → settled s n ≡ true → settled (with p) n ≡ true
     port_settles = still_settled

@@ -1,41 +1,20 @@
--- What the machine answers to events on numbers and home blocks.
-use Rattle.std.proofs.Common.{◌≡◌, ℕ, ◌+◌, ◌<◌, ◌&&◌, ◌||◌, Bool, true, false, not, List, [], ◌∷◌, ◌++◌, length, filter, reverse, Ok, sym, refl, ap, subst, ◌∙◌, inl, inr, arith, eqb, nat_lt}
-use Rattle.std.proofs.lemmas.Bool.{cases_Bool, eq-eqb, ne_eqb, lt-leb, lt-ltb}
-use Rattle.std.proofs.lemmas.List.{reverse-append, append-nil}
-use Rattle.std.proofs.lemmas.List.Elements.{filter-append}
+-- What the machine answers to a draw.
+use Rattle.std.proofs.Common.{◌≡◌, ℕ, List, [], Ok, sym, refl, subst, ◌∙◌, arith}
+use Rattle.std.proofs.lemmas.Bool.{lt-leb}
 use Rattle.mq_blocks.specs.Drive.{PortState}
-use Rattle.mq_blocks.specs.Journal.{is_among}
 use Rattle.mq_ledger.specs.KnownJournal.{MayDraw}
-use Rattle.mq_ledger.specs.History.{changes, last, AreNumbered}
 use Rattle.mq_ledger.specs.Plain.{plain}
 use Rattle.mq_ledger.specs.Records.{Ledger, IsKnown, HasPlace}
 use Rattle.mq_ledger.specs.State.{State, front_of, from_at, port_at}
 use Rattle.mq_loose.specs.Guards.{side_known}
 use Rattle.mq_ledger.specs.declared.tx.Tx.{Tx}
-use Rattle.mq_ledger.proofs.History.{last-changed, last-same, last_le}
-use Rattle.mq_core.specs.Events.{HasRoom, us_of, draw, unchanged_by, without}
+use Rattle.mq_core.specs.Events.{HasRoom, us_of, draw}
 use Rattle.mq_core.specs.Answers.{Answers}
 use Rattle.mq_loose.specs.Guards.{IsDrawable, MayDrawLoose}
-use Rattle.mq_loose.specs.Runs.{LooseEvent, IsAllowed, happens}
 use Rattle.mq_loose.proofs.Events.{draw_keeps}
 use Rattle.mq_core.specs.View.{state_with}
 use Rattle.mq_loose.specs.View.{IsHeld}
 use Rattle.mq_core.proofs.KnownJournalGrowth.{front_drawn}
-use Rattle.mq_loose.proofs.Lifts.{Told, idle_stays}
-use Rattle.mq_loose.proofs.Runs.{keeps}
-
--- an event that was allowed has happened, and left the front
-pub happened : (v : LooseEvent) (front : ℕ) (s new : State) → IsHeld front s → IsAllowed plain v s → new ≡ happens plain v s → front_of (happens plain v s) ≡ front_of s → Told v front s new (Ok tt)
-happened v front s new held may is stays =
-    record {
-      held = subst (λ t. IsHeld front t) (sym is) (record { facts = keeps plain v s held.facts may; front_is = held.front_is ∙ sym stays; idle = idle_stays v s ∙ held.idle });
-      answer = (may, is);
-    }
-
-pub reverse_push : {A : Type 0} (xs : List A) (x : A) → reverse (xs ++ x ∷ []) ≡ x ∷ reverse xs
-reverse_push xs x = reverse-append xs (x ∷ [])
-
--- ---- draws
 
 module _ (l : Ledger) (ports : List PortState) (root : PortState) (marks writing acknowledged : List ℕ) (held : IsHeld l.front (state_with l ports root marks writing acknowledged)) where
   abbrev s : State
@@ -60,86 +39,3 @@ module _ (l : Ledger) (ports : List PortState) (root : PortState) (marks writing
     subst (λ v. IsHeld l.front v) (sym is) (record { facts = draw_keeps plain s t held.facts direct revoked may.fits; front_is = held.front_is ∙ sym (drawn_front t may.fits); idle = held.idle }),
     (may, is),
   )
-
--- the blocks that a transaction leaves are those that it isn't the last change of
-abbrev pub is_new : ℕ → ℕ → List Tx → ℕ → ℕ → Bool
-is_new homes base h number x = nat_lt x homes && eqb (last base h x) number
-
-pub is_new-changes : (homes base : ℕ) (t : Tx) (h : List Tx) (x : ℕ) → AreNumbered base h → t.number ≡ base + length h + 1 → x < homes → is_new homes base (t ∷ h) t.number x ≡ changes t x
-is_new-changes homes base t h x n number inside = ap (λ b. b && eqb (last base (t ∷ h) x) t.number) (lt-ltb _ _ inside) ∙ elim (cases_Bool (changes t x)) [
-  | inl c ↦ eq-eqb (last base (t ∷ h) x) t.number (last-changed base t h x c) ∙ sym c
-  | inr c ↦ ne_eqb (last base (t ∷ h) x) t.number (λ e. let same = last-same base t h x c in omega (arith, last_le base h x n)) ∙ sym c
-]
-
--- ---- blocks under way
-
-filter-reverse : (p : ℕ → Bool) (xs : List ℕ) → filter p (reverse xs) ≡ reverse (filter p xs)
-filter-reverse p [] = refl
-filter-reverse p (x ∷ xs) =
-    let back : filter p (reverse (x ∷ xs)) ≡ reverse (filter p xs) ++ filter p (x ∷ []) = ap (filter p) (reverse-append (x ∷ []) xs) ∙ filter-append p (reverse xs) (x ∷ []) ∙ ap (λ ys. ys ++ filter p (x ∷ [])) (filter-reverse p xs) in
-    back ∙ elim (cases_Bool (p x)) [
-      | inl c ↦ rw c (sym (reverse-append (x ∷ []) (filter p xs)))
-      | inr c ↦ rw c (append-nil (reverse (filter p xs)))
-    ]
-
-filter_along : (p q : ℕ → Bool) (xs : List ℕ) → ((x : ℕ) → is_among x xs ≡ true → p x ≡ q x) → filter p xs ≡ filter q xs
-filter_along p q [] each = refl
-filter_along p q (x ∷ xs) each =
-    let here : p x ≡ q x = each x (rw (eq-eqb x x refl) refl) in
-    let rest = filter_along p q xs (λ y h. each y (behind y h)) in
-    elim (cases_Bool (q x)) [
-      | inl c ↦ rw (here ∙ c, c, rest) refl
-      | inr c ↦ rw (here ∙ c, c, rest) refl
-    ]
-  where
-    behind : (y : ℕ) → is_among y xs ≡ true → is_among y (x ∷ xs) ≡ true
-    behind y h = elim (cases_Bool (eqb x y)) [
-      | inl e ↦ rw e refl
-      | inr e ↦ rw e h
-    ]
-
-among-append : (x : ℕ) (xs ys : List ℕ) → is_among x (xs ++ ys) ≡ is_among x xs || is_among x ys
-among-append x [] ys = refl
-among-append x (z ∷ xs) ys = elim (cases_Bool (eqb z x)) [
-  | inl c ↦ rw c refl
-  | inr c ↦ rw c (among-append x xs ys)
-]
-
-pub among-reverse : (x : ℕ) (xs : List ℕ) → is_among x (reverse xs) ≡ is_among x xs
-among-reverse x [] = refl
-among-reverse x (z ∷ xs) = ap (is_among x) (reverse-append (z ∷ []) xs) ∙ among-append x (reverse xs) (z ∷ []) ∙ ap (λ b. b || is_among x (z ∷ [])) (among-reverse x xs) ∙ elim (cases_Bool (eqb z x)) [
-  | inl c ↦ rw c (or_true (is_among x xs))
-  | inr c ↦ rw c (or_false (is_among x xs))
-]
-  where
-    or_true : (b : Bool) → b || true ≡ true
-    or_true true = refl
-    or_true false = refl
-
-    or_false : (b : Bool) → b || false ≡ b
-    or_false true = refl
-    or_false false = refl
-
-unchanged-filter : (t : Tx) (xs : List ℕ) → filter (λ x. not (changes t x)) xs ≡ unchanged_by t xs
-unchanged-filter t [] = refl
-unchanged-filter t (x ∷ xs) = elim (cases_Bool (changes t x)) [
-  | inl c ↦ rw c (unchanged-filter t xs)
-  | inr c ↦ rw c (ap (λ ys. x ∷ ys) (unchanged-filter t xs))
-]
-
-without-filter : (x : ℕ) (xs : List ℕ) → filter (λ y. not (eqb y x)) xs ≡ without x xs
-without-filter x [] = refl
-without-filter x (z ∷ xs) = elim (cases_Bool (eqb z x)) [
-  | inl c ↦ rw c (without-filter x xs)
-  | inr c ↦ rw c (ap (λ ys. z ∷ ys) (without-filter x xs))
-]
-
--- what a draw leaves of them, newest last
-pub left_by : (homes base : ℕ) (t : Tx) (h : List Tx) (xs : List ℕ) → AreNumbered base h → t.number ≡ base + length h + 1 → ((x : ℕ) → is_among x (reverse xs) ≡ true → x < homes)
-    → reverse (filter (λ x. not (is_new homes base (t ∷ h) t.number x)) xs) ≡ unchanged_by t (reverse xs)
-left_by homes base t h xs n number inside =
-    ap reverse (filter_along _ (λ x. not (changes t x)) xs (λ x among. ap not (is_new-changes homes base t h x n number (inside x (among-reverse x xs ∙ among)))))
-    ∙ sym (filter-reverse (λ x. not (changes t x)) xs) ∙ unchanged-filter t (reverse xs)
-
-pub left_without : (x : ℕ) (xs : List ℕ) → reverse (filter (λ y. not (eqb y x)) xs) ≡ without x (reverse xs)
-left_without x xs = sym (filter-reverse (λ y. not (eqb y x)) xs) ∙ without-filter x (reverse xs)

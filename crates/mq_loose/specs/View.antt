@@ -1,10 +1,9 @@
 -- The fields of a machine as its state. What is newest stands last in the code, and first in the state.
 use Rattle.std.specs.Prelude.{◌≡◌, ℕ, ◌-◌, ◌^◌, List, replicate, reverse}
-use Rattle.mq_blocks.specs.Drive.{staged_end}
 use Rattle.mq_ledger.specs.Plain.{plain}
 use Rattle.mq_ledger.specs.Records.{Ledger}
-use Rattle.mq_ledger.specs.State.{State, front_of}
-use Rattle.mq_core.specs.View.{state_with}
+use Rattle.mq_ledger.specs.State.{State}
+use Rattle.mq_core.specs.View.{IsHeldBy, state_with}
 use Rattle.mq_loose.specs.Rows.{loose_rows}
 use Rattle.mq_loose.specs.Safe.{Facts}
 use Rattle.mq_loose.specs.declared.machine.LooseCore.TheInside.{Inside}
@@ -19,10 +18,8 @@ state_of c =
     (reverse c.acknowledged.items)
 
 -- The state has the facts, this is its front, and nothing is staged at the root.
-pub record IsHeld (front : ℕ) (s : State) : Type 0 where
-  pub facts : Facts plain s
-  pub front_is : front ≡ front_of s
-  pub idle : staged_end s.root ≡ 0
+abbrev pub IsHeld : ℕ → State → Type 0
+IsHeld front s = IsHeldBy (λ t. Facts plain t) front s
 
 pub record HasFacts (c : Inside) : Type 0 where
   pub held : IsHeld c.ledger.front (state_of c)

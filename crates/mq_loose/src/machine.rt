@@ -1,6 +1,5 @@
 // The machine.
 mod bases;
-mod front;
 mod homes;
 mod numbers;
 mod rings;

@@ -4,26 +4,15 @@ ghost use Rattle.mq_blocks.specs.Geometry.{homes_of, zone_of, home_lba};
 ghost use Rattle.mq_ledger.specs.Plain.{plain};
 ghost use Rattle.mq_ledger.specs.State.{port_of};
 ghost use Rattle.mq_core.specs.Answers.{Answers};
-ghost use Rattle.mq_core.specs.Bases.{due_at, is_due, home_of, writes_none, post_none, Holds};
+ghost use Rattle.mq_core.specs.Bases.{due_at, is_due, writes_none, post_none, Holds};
 ghost use Rattle.mq_core.specs.Events.{MayStoreBase};
 ghost use Rattle.mq_loose.specs.Runs.{IsAllowed, happens, StoreBase, FlushBase};
 ghost use Rattle.mq_core.specs.Within.{IsWithin};
 
 use super::LooseCore;
-use mq_blocks::{BlockNo, Geometry, TxNo};
-use mq_core::{CoreRefusal, PlainCommand, PlainPort};
+use mq_blocks::{BlockNo, TxNo};
+use mq_core::{CoreRefusal, PlainCommand, PlainPort, home_block};
 use mq_ledger::Content;
-
-/// The home block that a command writes, if it writes one.
-pub fn home_block(geometry: Geometry, command: &PlainCommand) -> Option<BlockNo>
-    ensures { result ≡ home_of geometry command.now }
-{
-    let areas = geometry.queues() * geometry.area();
-    if command.lba.0 < areas {
-        return None;
-    }
-    Some(BlockNo(command.lba.0 - areas))
-}
 
 impl LooseCore {
     /// What stands on a block in the map after the base, where no number above it and up to the front

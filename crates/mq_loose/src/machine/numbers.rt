@@ -1,5 +1,5 @@
 // Events on numbers: a transaction is drawn, numbers are acknowledged.
-ghost use Rattle.std.specs.Prelude.{◌≡◌, ◌≤◌, ◌<◌, ◌+◌, ◌↔◌, ◌&&◌, [], IfOk, IsTrue, OnOk, filter, length, nat_eq, nat_lt, not};
+ghost use Rattle.std.specs.Prelude.{◌≡◌, ◌<◌, ◌+◌, ◌↔◌, ◌&&◌, [], IfOk, IsTrue, OnOk};
 ghost use Rattle.mq_blocks.specs.Descriptor.{AreRising};
 ghost use Rattle.mq_blocks.specs.Geometry.{homes_of};
 ghost use Rattle.mq_ledger.specs.History.{last};
@@ -17,30 +17,13 @@ use super::LooseCore;
 use super::rows::{LooseRow, logged_blocks, newest_of, row_of};
 use crate::LooseTx;
 use mq_blocks::{BlockNo, OutOfMemory, TxNo};
-use mq_core::CoreRefusal;
+use mq_core::{CoreRefusal, drop_changed};
 use mq_ledger::{Blocks, Ledger, Tx, Writes, descriptor_blocks};
 use mq_loose_order::Numbers;
 use std::alloc::Global;
 
 /// The most blocks that a transaction names.
 const NAMED_LIMIT: usize = 256;
-
-/// Whether this number changed a block last; false for a block that is no home block.
-fn is_last_change(ledger: &Ledger, block: BlockNo, number: TxNo) -> bool
-    ensures { result ≡ (nat_lt block (homes_of ledger.now.geometry) && nat_eq
-        (last ledger.now.base ledger.now.history block) number) }
-{
-    block.0 < ledger.geometry().homes() && ledger.last_change(block).0 == number.0
-}
-
-/// Drops the blocks that this number changed last.
-fn drop_changed(ledger: &Ledger, blocks: &mut Vec<BlockNo>, number: TxNo)
-    ensures { blocks.new.items ≡ filter
-        (λ x. not (nat_lt x (homes_of ledger.now.geometry) && nat_eq
-        (last ledger.now.base ledger.now.history x) number)) blocks.old.items }
-{
-    blocks.retain(|block| !is_last_change(ledger, *block, number));
-}
 
 /// Puts the last number that changed a block among rising ones, if it is above the base.
 fn add_change(

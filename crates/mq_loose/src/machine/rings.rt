@@ -11,10 +11,9 @@ ghost use Rattle.mq_core.specs.Events.{flush, us_of};
 ghost use Rattle.mq_loose.specs.Runs.{IsAllowed, happens, Stage, Flush, Ring, Complete, FailCommand, StoreHead, FlushHead};
 
 use super::LooseCore;
-use super::front::settle_all;
 use super::rows::LooseRow;
 use mq_blocks::{Block, OutOfMemory, QueueNo};
-use mq_core::CoreRefusal;
+use mq_core::{CoreRefusal, settle_all};
 use mq_ledger::{Content, Staged};
 use mq_loose_order::write_loose_descriptor;
 use std::alloc::Global;

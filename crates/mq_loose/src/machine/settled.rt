@@ -10,7 +10,7 @@ ghost use Rattle.mq_loose.specs.Rows.{AreRows, flag_of, is_past, loose_rows};
 
 use super::LooseCore;
 use super::rows::LooseRow;
-use mq_blocks::{OutOfMemory, QueueNo, TxNo};
+use mq_blocks::{OutOfMemory, TxNo};
 use mq_core::PlainPort;
 use std::alloc::Global;
 

@@ -1,20 +1,17 @@
-use Rattle.std.proofs.Common.{◌≡◌, ℕ, ◌<◌, ◌^◌, List, length, set, sym, ap, subst, ◌∙◌, arith}
+use Rattle.std.proofs.Common.{◌≡◌, ◌<◌, ◌^◌, length, set, sym, ap, subst, ◌∙◌, arith}
 use Rattle.std.proofs.lemmas.List.{length-set}
 use Rattle.mq_blocks.specs.Drive.{PortState, staged_end, after_flush}
 use Rattle.mq_ledger.specs.Plain.{plain}
-use Rattle.mq_ledger.specs.Records.{Ledger}
-use Rattle.mq_ledger.specs.State.{State, known_of, port_at}
+use Rattle.mq_ledger.specs.State.{State, Facts, known_of, port_at}
 use Rattle.mq_core.specs.Events.{flush, us_of}
 use Rattle.mq_core.specs.Settled.{IsSettled, settled}
-use Rattle.mq_core.specs.View.{IsHeld, state_of, state_with}
+use Rattle.mq_core.specs.View.{state_of, state_with}
 use Rattle.mq_core.proofs.MachineLifts.{same_port, set_port}
 use Rattle.mq_core.proofs.Within.{staged_small}
-use Rattle.mq_core.proofs.Settled.{flush_settled, flush_held}
+use Rattle.mq_core.proofs.Settled.{held_along, flush_settled, flush_held}
+use Rattle.mq_core.proofs.StatePorts.{flush_keeps, flush_front}
 use Rattle.mq_core.proofs.machine.Core.flush_port.Goals as goal
 use Rattle.mq_core.proofs.machine.Core.flush_port.Goals.{After-queue, After-index_mut, After-flush, After-deref}
-
-held_along : (l k : Ledger) (ps qs : List PortState) (root : PortState) (marks writing acknowledged : List ℕ) → l ≡ k → ps ≡ qs → IsHeld l.front (state_with l ps root marks writing acknowledged) → IsHeld k.front (state_with k qs root marks writing acknowledged)
-held_along l k ps qs root marks writing acknowledged a b h = subst (λ (m : Ledger). IsHeld m.front (state_with m qs root marks writing acknowledged)) a (subst (λ rs. IsHeld l.front (state_with l rs root marks writing acknowledged)) b h)
 
 own : (c : After-queue) → c.args.queue < c.self.inside.ledger.geometry.queues
 own c = subst (λ (s : State). c.args.queue < s.geometry.queues) (sym c.self.view_is) c.requires
@@ -53,8 +50,9 @@ pub settle_all-requires-clause-done : goal.settle_all-requires-clause-done
 settle_all-requires-clause-done c =
     let i = c.self.inside in
     let s = state_of i in
+    let f = c.self.invariant.facts in
     subst (λ ports. IsSettled i.ledger ports) (sym (seen c))
-    (flush_settled i.ledger i.ports.items i.root s.marks s.writing s.acknowledged c.args.queue (own (goal.at.settle_all-requires-clause-done c).After-queue) c.self.invariant)
+    (flush_settled (λ t. Facts plain t) i.ledger i.ports.items i.root s.marks s.writing s.acknowledged c.args.queue f.log.numbers c.self.invariant (flush_front plain s f c.args.queue (own (goal.at.settle_all-requires-clause-done c).After-queue)))
 
 pub invariant_of-self : goal.invariant_of-self
 invariant_of-self c =
@@ -62,7 +60,9 @@ invariant_of-self c =
     let s = state_of i in
     let ports = ports_are (goal.at.invariant_of-self c).After-flush in
     let ledger = c.settle_all.ensures ∙ ap (λ ps. settled ps i.ledger) (seen (goal.at.invariant_of-self c).After-deref) in
-    held_along _ _ _ _ i.root s.marks s.writing s.acknowledged (sym ledger) (sym ports) (flush_held i.ledger i.ports.items i.root s.marks s.writing s.acknowledged c.args.queue (own (goal.at.invariant_of-self c).After-queue) c.self.invariant)
+    let f = c.self.invariant.facts in
+    let kept = flush_keeps plain s f c.args.queue (own (goal.at.invariant_of-self c).After-queue) in
+    held_along (λ t. Facts plain t) _ _ _ _ i.root s.marks s.writing s.acknowledged (sym ledger) (sym ports) (flush_held (λ t. Facts plain t) i.ledger i.ports.items i.root s.marks s.writing s.acknowledged c.args.queue f.log.numbers c.self.invariant kept)
 
 pub returns : goal.returns
 returns c =

@@ -4,13 +4,16 @@ use Rattle.mq_blocks.specs.declared.geometry.Geometry.{Geometry}
 use Rattle.mq_blocks.specs.Geometry.{zone_of, homes_of}
 use Rattle.mq_blocks.specs.Journal.{is_among}
 use Rattle.mq_ledger.specs.History.{map_after}
+use Rattle.mq_ledger.specs.Plain.{plain}
 use Rattle.mq_ledger.specs.State.{State, IsUnder, start_map}
-use Rattle.mq_core.specs.Events.{end_home, content_at}
+use Rattle.mq_core.specs.Events.{end_home, content_at, without}
 use Rattle.mq_core.specs.Homes.{IsIn, ports_after, root_after}
 use Rattle.mq_core.specs.Machine.{HomeDone}
 use Rattle.mq_core.specs.View.{state_of}
-use Rattle.mq_core.proofs.HomesCalls.{is_in, is_there, ended}
+use Rattle.mq_core.proofs.HomesCalls.{is_in, is_there, changed}
 use Rattle.mq_core.proofs.MachineLifts.{Told, answer_at}
+use Rattle.mq_core.proofs.StateSides.{sides_of}
+use Rattle.mq_core.proofs.MachineCore.{core_machine}
 use Rattle.mq_core.proofs.EventsTellings.{among-reverse, left_without}
 use Rattle.mq_core.proofs.machine.Core.home_done.Goals as goal
 use Rattle.mq_core.proofs.machine.Core.home_done.Goals.{After-holds_block, Else-not-holds_block, After-drop_block}
@@ -38,7 +41,7 @@ home_content-requires-clause-block c = subst (λ (t : State). c.args.block < hom
 pub home_content-requires-clause-there : goal.home_content-requires-clause-there
 home_content-requires-clause-there c =
     let u = writing c in
-    let w = is_there (state_of c.self.inside) c.args.block c.self.invariant.facts u.low u.logged in
+    let w = is_there (state_of c.self.inside) c.args.block (sides_of plain (state_of c.self.inside) c.self.invariant.facts) u.low u.logged in
     subst (λ (t : State). IsSome (map_after (start_map t.start) t.history c.args.block)) c.self.view_is (subst (λ o. IsSome o) (sym w.1) refl)
 
 pub end_write-requires-clause-block : goal.end_write-requires-clause-block
@@ -47,15 +50,16 @@ end_write-requires-clause-block c = subst (λ g. c.args.block < homes_of g) (sym
 pub end_write-requires-clause-there : goal.end_write-requires-clause-there
 end_write-requires-clause-there c =
     let s = state_of c.self.inside in
-    subst (λ g. IsIn g c.args.block s.ports s.root) (sym c.geometry-geometry.ensures) (is_in s c.self.invariant.facts c.args.block (writing (goal.at.end_write-requires-clause-there c).Else-not-holds_block).block)
+    subst (λ g. IsIn g c.args.block s.ports s.root) (sym c.geometry-geometry.ensures) (is_in s (sides_of plain s c.self.invariant.facts) c.args.block (writing (goal.at.end_write-requires-clause-there c).Else-not-holds_block).block)
 
-told : (c : After-drop_block) → Told (HomeDone c.args.block) c.self.inside.ledger.front (state_of c.self.inside) (record (state_of c.self.inside) { ports = c.end_write.new.ports.items; root = c.end_write.new.root; writing = reverse c.drop_block.new.blocks.items }) (Ok tt)
+told : (c : After-drop_block) → Told core_machine (HomeDone c.args.block) c.self.inside.ledger.front (state_of c.self.inside) (record (state_of c.self.inside) { ports = c.end_write.new.ports.items; root = c.end_write.new.root; writing = reverse c.drop_block.new.blocks.items }) (Ok tt)
 told c =
     let i = c.self.inside in
     let s = state_of i in
     let x = c.args.block in
     let content : c.in_ok-content.content ≡ content_at s x = c.in_ok-content.ensures ∙ ap (λ (t : State). content_at t x) (sym c.self.view_is) in
-    ended i.ledger.front s x c.in_ok-content.content c.end_write.new.ports.items c.end_write.new.root (reverse c.drop_block.new.blocks.items) c.self.invariant (may (goal.at.After-drop_block c).Else-not-holds_block) content
+    let at = (goal.at.After-drop_block c).Else-not-holds_block in
+    changed core_machine (HomeDone x) i.ledger.front s x (end_home s.geometry x) (without x s.writing) c.self.invariant (may at) (sides_of plain s c.self.invariant.facts) (writing at).block (λ p. refl) refl c.in_ok-content.content c.end_write.new.ports.items c.end_write.new.root (reverse c.drop_block.new.blocks.items) content
     (c.end_write.ensures.ports ∙ ap (λ (g : Geometry). ports_after (end_home g x c.in_ok-content.content) (zone_of g x) s.ports) c.geometry-geometry.ensures)
     (c.end_write.ensures.root ∙ ap (λ (g : Geometry). root_after (end_home g x c.in_ok-content.content) (zone_of g x) s.root) c.geometry-geometry.ensures)
     (ap reverse c.drop_block.ensures ∙ left_without x i.writing.items)

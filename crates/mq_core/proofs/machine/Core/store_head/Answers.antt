@@ -4,10 +4,11 @@ use Rattle.mq_core.specs.Answers.{IsCompletedTo}
 use Rattle.mq_core.specs.Machine.{StoreHead}
 use Rattle.mq_core.specs.View.{state_of}
 use Rattle.mq_core.proofs.MachineLifts.{Told, port_told, answer_at}
+use Rattle.mq_core.proofs.MachineCore.{core_machine}
 use Rattle.mq_core.proofs.machine.Core.store_head.Goals as goal
 use Rattle.mq_core.proofs.machine.Core.store_head.Goals.{After-try_store_head}
 
-told : (c : After-try_store_head) → Told (StoreHead c.args.queue c.args.head) c.self.inside.ledger.front (state_of c.self.inside) (record (state_of c.self.inside) { ports = set c.self.inside.ports.items c.queue.inside.0 c.try_store_head.new.self }) c.try_store_head.result
+told : (c : After-try_store_head) → Told core_machine (StoreHead c.args.queue c.args.head) c.self.inside.ledger.front (state_of c.self.inside) (record (state_of c.self.inside) { ports = set c.self.inside.ports.items c.queue.inside.0 c.try_store_head.new.self }) c.try_store_head.result
 told c =
     let s = state_of c.self.inside in
     let q = c.args.queue in
@@ -15,7 +16,7 @@ told c =
     let within : c.queue.inside.0 < length s.ports = omega arith in
     let f = c.self.invariant.facts in
     let own : q < s.geometry.queues = omega (arith, f.ports, c.queue.view_is) in
-    port_told c.self.inside.ledger.front q c.queue.inside.0 s c.index_mut.result.now c.try_store_head.new.self (λ p. IsCompletedTo h p) (λ p. after_store_head p h) c.try_store_head.result within c.queue.view_is c.index_mut.ensures.value c.self.invariant c.try_store_head.ensures
+    port_told core_machine c.self.inside.ledger.front q c.queue.inside.0 s c.index_mut.result.now c.try_store_head.new.self (λ p. IsCompletedTo h p) (λ p. after_store_head p h) c.try_store_head.result within c.queue.view_is c.index_mut.ensures.value c.self.invariant c.try_store_head.ensures
     (StoreHead q h) (λ m. (own, record { is_end = c.if-not-is_end.ensures.0 refl; above = m.above; rung = m.rung; posted = m.posted; failed = m.failed }))
     (λ a. record { above = a.1.above; rung = a.1.rung; posted = a.1.posted; failed = a.1.failed }) refl refl
 

@@ -10,7 +10,8 @@ use Rattle.mq_loose.specs.Guards.{MayDrawLoose}
 use Rattle.mq_loose.specs.Rows.{loose_rows, row_for}
 use Rattle.mq_loose.specs.View.{IsHeld, no_marks, state_of}
 use Rattle.mq_loose.proofs.RowLists.{rows_more}
-use Rattle.mq_loose.proofs.Tellings.{drawn, is_new, left_by}
+use Rattle.mq_core.proofs.EventsTellings.{is_new, left_by}
+use Rattle.mq_loose.proofs.Tellings.{drawn}
 use Rattle.mq_loose.proofs.machine.LooseCore.draw_tx.Goals as goal
 use Rattle.mq_loose.proofs.machine.LooseCore.draw_tx.Goals.{After-drop_changed}
 

@@ -9,8 +9,8 @@ use Rattle.mq_core.specs.Answers.{IsStagedTo}
 use Rattle.mq_core.specs.Events.{MayFlush, us_of}
 use Rattle.mq_loose.specs.Runs.{IsAllowed, Flush}
 use Rattle.mq_loose.specs.View.{state_of}
-use Rattle.mq_loose.proofs.Lifts.{same_port}
-use Rattle.mq_loose.proofs.Within.{staged_small}
+use Rattle.mq_core.proofs.MachineLifts.{same_port}
+use Rattle.mq_core.proofs.Within.{staged_small}
 use Rattle.mq_loose.proofs.machine.LooseCore.flush.Goals as goal
 use Rattle.mq_loose.proofs.machine.LooseCore.flush.Goals.{Else-at-len, After-index}
 

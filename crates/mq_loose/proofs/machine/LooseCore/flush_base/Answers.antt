@@ -1,8 +1,8 @@
 use Rattle.std.proofs.Common.{Ok, sym, refl, ◌∙◌, arith}
 use Rattle.mq_loose.specs.Runs.{FlushBase}
 use Rattle.mq_loose.specs.View.{state_of}
-use Rattle.mq_loose.proofs.Lifts.{Told, answer_at}
-use Rattle.mq_loose.proofs.Tellings.{happened}
+use Rattle.mq_core.proofs.MachineLifts.{Told, happened, answer_at}
+use Rattle.mq_loose.proofs.Machines.{loose_machine}
 use Rattle.mq_loose.proofs.machine.LooseCore.flush_base.Goals as goal
 use Rattle.mq_loose.proofs.machine.LooseCore.flush_base.Goals.{After-flush}
 
@@ -12,8 +12,8 @@ flush-requires-clause-ring c = (let p = c.self.invariant.held.facts.root.port in
 pub flush-requires-clause-room : goal.flush-requires-clause-room
 flush-requires-clause-room c = omega (arith, c.self.invariant.held.idle)
 
-told : (c : After-flush) → Told FlushBase c.self.inside.ledger.front (state_of c.self.inside) (record (state_of c.self.inside) { root = c.flush.new.self }) (Ok tt)
-told c = (let s = state_of c.self.inside in happened FlushBase c.self.inside.ledger.front s (record s { root = c.flush.new.self }) c.self.invariant.held tt (λ i. record s { root = c.flush.ensures i }) refl)
+told : (c : After-flush) → Told loose_machine FlushBase c.self.inside.ledger.front (state_of c.self.inside) (record (state_of c.self.inside) { root = c.flush.new.self }) (Ok tt)
+told c = (let s = state_of c.self.inside in happened loose_machine FlushBase c.self.inside.ledger.front s (record s { root = c.flush.new.self }) c.self.invariant.held tt (λ i. record s { root = c.flush.ensures i }) refl)
 
 pub invariant_of-self : goal.invariant_of-self
 invariant_of-self c = record { held = (told (goal.at.invariant_of-self c).After-flush).held; rows = c.self.invariant.rows }

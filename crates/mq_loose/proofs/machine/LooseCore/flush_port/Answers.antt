@@ -1,4 +1,4 @@
-use Rattle.std.proofs.Common.{◌≡◌, ℕ, ◌<◌, ◌^◌, List, length, reverse, set, sym, ap, subst, ◌∙◌, arith}
+use Rattle.std.proofs.Common.{◌≡◌, ◌<◌, ◌^◌, List, length, reverse, set, sym, ap, subst, ◌∙◌, arith}
 use Rattle.std.proofs.lemmas.List.{length-set}
 use Rattle.mq_blocks.specs.Drive.{PortState, staged_end, after_flush}
 use Rattle.mq_ledger.specs.Plain.{plain}
@@ -11,14 +11,13 @@ use Rattle.mq_core.specs.View.{state_with}
 use Rattle.mq_loose.specs.Rows.{loose_rows}
 use Rattle.mq_loose.specs.declared.machine.rows.LooseRow.{LooseRow}
 use Rattle.mq_loose.specs.View.{no_marks, IsHeld, state_of}
-use Rattle.mq_loose.proofs.Lifts.{same_port, set_port}
-use Rattle.mq_loose.proofs.Within.{staged_small}
-use Rattle.mq_loose.proofs.Fronts.{flush_settled, flush_held}
+use Rattle.mq_core.proofs.MachineLifts.{same_port, set_port}
+use Rattle.mq_core.proofs.Within.{staged_small}
+use Rattle.mq_core.proofs.Settled.{held_along, flush_settled, flush_held}
+use Rattle.mq_loose.specs.Safe.{Facts}
+use Rattle.mq_loose.proofs.Ports.{flush_keeps, flush_front}
 use Rattle.mq_loose.proofs.machine.LooseCore.flush_port.Goals as goal
 use Rattle.mq_loose.proofs.machine.LooseCore.flush_port.Goals.{After-queue, After-index_mut, After-flush, After-deref}
-
-held_along : (l k : Ledger) (ps qs : List PortState) (root : PortState) (marks writing acknowledged : List ℕ) → l ≡ k → ps ≡ qs → IsHeld l.front (state_with l ps root marks writing acknowledged) → IsHeld k.front (state_with k qs root marks writing acknowledged)
-held_along l k ps qs root marks writing acknowledged a b h = subst (λ (m : Ledger). IsHeld m.front (state_with m qs root marks writing acknowledged)) a (subst (λ rs. IsHeld l.front (state_with l rs root marks writing acknowledged)) b h)
 
 own : (c : After-queue) → c.args.queue < c.self.inside.ledger.geometry.queues
 own c = subst (λ (s : State). c.args.queue < s.geometry.queues) (sym c.self.view_is) c.requires
@@ -57,8 +56,9 @@ pub settle_all-requires-clause-done : goal.settle_all-requires-clause-done
 settle_all-requires-clause-done c =
     let i = c.self.inside in
     let s = state_of i in
+    let f = c.self.invariant.held.facts in
     subst (λ ports. IsSettled i.ledger ports) (sym (seen c))
-    (flush_settled i.ledger i.ports.items i.root s.marks s.writing s.acknowledged c.args.queue (own (goal.at.settle_all-requires-clause-done c).After-queue) c.self.invariant.held)
+    (flush_settled (λ t. Facts plain t) i.ledger i.ports.items i.root s.marks s.writing s.acknowledged c.args.queue f.log.numbers c.self.invariant.held (flush_front plain s f c.args.queue (own (goal.at.settle_all-requires-clause-done c).After-queue)))
 
 -- the ledger has another front, and no other field
 front_moved : (l k : Ledger) (ports : List PortState) → k ≡ settled ports l → no_marks k ≡ no_marks l
@@ -73,7 +73,9 @@ invariant_of-self c =
     let s = state_of i in
     let ports = ports_are (goal.at.invariant_of-self c).After-flush in
     let ledger = c.settle_all.ensures ∙ ap (λ ps. settled ps i.ledger) (seen (goal.at.invariant_of-self c).After-deref) in
-    let held = held_along _ _ _ _ i.root s.marks s.writing s.acknowledged (sym ledger) (sym ports) (flush_held i.ledger i.ports.items i.root s.marks s.writing s.acknowledged c.args.queue (own (goal.at.invariant_of-self c).After-queue) c.self.invariant.held) in
+    let f = c.self.invariant.held.facts in
+    let kept = flush_keeps plain s f c.args.queue (own (goal.at.invariant_of-self c).After-queue) in
+    let held = held_along (λ t. Facts plain t) _ _ _ _ i.root s.marks s.writing s.acknowledged (sym ledger) (sym ports) (flush_held (λ t. Facts plain t) i.ledger i.ports.items i.root s.marks s.writing s.acknowledged c.args.queue f.log.numbers c.self.invariant.held kept) in
     record {
       held = subst (λ marks. IsHeld c.settle_all.new.ledger.front (state_with c.settle_all.new.ledger (set i.ports.items c.queue.inside.0 c.flush.new.self) i.root marks s.writing s.acknowledged)) (sym (front_moved i.ledger c.settle_all.new.ledger _ ledger)) held;
       rows = rows_kept i.ledger c.settle_all.new.ledger _ i.rows.items ledger c.self.invariant.rows;

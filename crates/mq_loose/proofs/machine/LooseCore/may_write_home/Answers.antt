@@ -3,10 +3,12 @@ use Rattle.std.specs.Prelude.{◌↔◌, IfOk, IsTrue}
 use Rattle.std.proofs.lemmas.Bool.{false≢true}
 use Rattle.mq_blocks.specs.Geometry.{homes_of}
 use Rattle.mq_ledger.specs.History.{last}
+use Rattle.mq_ledger.specs.Plain.{plain}
 use Rattle.mq_ledger.specs.State.{State}
 use Rattle.mq_loose.specs.Guards.{settled, MayWriteHome}
 use Rattle.mq_loose.specs.View.{state_of}
-use Rattle.mq_loose.proofs.HomeCalls.{is_there}
+use Rattle.mq_core.proofs.HomesCalls.{is_there}
+use Rattle.mq_loose.proofs.Sides.{sides_of}
 use Rattle.mq_loose.proofs.machine.LooseCore.may_write_home.Goals as goal
 
 -- the answer is that of a test
@@ -30,5 +32,5 @@ returns c =
     let logged = c.is_logged_last.ensures.0 c.if-not-is_logged_last.false in
     let same : settled s (last s.base s.history x) ≡ settled c.args.self.now c.last_change-change.result = ap (λ (t : State). settled t (last s.base s.history x)) c.self.view_is ∙ ap (settled c.args.self.now) (sym c.last_change-change.ensures) in
     answer (MayWriteHome c.args.self.now x) c.is_settled.result (settled c.args.self.now c.last_change-change.result) c.is_settled.ensures
-    (λ t. subst (λ (v : State). MayWriteHome v x) c.self.view_is (record { block = block; there = is_there s x c.self.invariant.held.facts low logged; low = low; settled_is = same ∙ t; logged = logged }))
+    (λ t. subst (λ (v : State). MayWriteHome v x) c.self.view_is (record { block = block; there = is_there s x (sides_of plain s c.self.invariant.held.facts) low logged; low = low; settled_is = same ∙ t; logged = logged }))
     (λ m. sym same ∙ (subst (λ (v : State). MayWriteHome v x) (sym c.self.view_is) m).settled_is)

@@ -8,8 +8,9 @@ use Rattle.mq_core.specs.Answers.{IsFlushedTo}
 use Rattle.mq_core.specs.Events.{us_of}
 use Rattle.mq_loose.specs.Runs.{Ring}
 use Rattle.mq_loose.specs.View.{state_of}
-use Rattle.mq_loose.proofs.Lifts.{Told, same_port, port_told, answer_at}
-use Rattle.mq_loose.proofs.Within.{staged_small}
+use Rattle.mq_core.proofs.MachineLifts.{Told, same_port, port_told, answer_at}
+use Rattle.mq_core.proofs.Within.{staged_small}
+use Rattle.mq_loose.proofs.Machines.{loose_machine}
 use Rattle.mq_loose.proofs.machine.LooseCore.ring.Goals as goal
 use Rattle.mq_loose.proofs.machine.LooseCore.ring.Goals.{After-ring}
 
@@ -23,7 +24,7 @@ ring-requires c =
     let is = same_port s.ports q c.queue.inside.0 c.index_mut.result.now within c.queue.view_is c.index_mut.ensures.value in
     subst (λ (p : PortState). staged_end p < 2 ^ 64) (sym is) (staged_small (side_known plain s) q (us_of s q) (port_at s.ports q) f.log (f.sides q own))
 
-told : (c : After-ring) → Told (Ring c.args.queue) c.self.inside.ledger.front (state_of c.self.inside) (record (state_of c.self.inside) { ports = set c.self.inside.ports.items c.queue.inside.0 c.ring.new.self }) c.ring.result
+told : (c : After-ring) → Told loose_machine (Ring c.args.queue) c.self.inside.ledger.front (state_of c.self.inside) (record (state_of c.self.inside) { ports = set c.self.inside.ports.items c.queue.inside.0 c.ring.new.self }) c.ring.result
 told c =
     let s = state_of c.self.inside in
     let q = c.args.queue in
@@ -32,7 +33,7 @@ told c =
     let within : c.queue.inside.0 < length s.ports = omega arith in
     let f = c.self.invariant.held.facts in
     let own : q < s.geometry.queues = omega (arith, f.ports, c.queue.view_is) in
-    port_told c.self.inside.ledger.front q c.queue.inside.0 s c.index_mut.result.now c.ring.new.self (λ p. IsFlushedTo end p) after_ring c.ring.result within c.queue.view_is c.index_mut.ensures.value c.self.invariant.held c.ring.ensures
+    port_told loose_machine c.self.inside.ledger.front q c.queue.inside.0 s c.index_mut.result.now c.ring.new.self (λ p. IsFlushedTo end p) after_ring c.ring.result within c.queue.view_is c.index_mut.ensures.value c.self.invariant.held c.ring.ensures
     (Ring q) (λ m. (own, record { drawn = omega (arith, m.drawn, end_is); whole = omega (arith, m.whole, end_is); flushed = omega (arith, m.flushed, end_is) }))
     (λ a. record { drawn = omega (arith, a.1.drawn, end_is); whole = omega (arith, a.1.whole, end_is); flushed = omega (arith, a.1.flushed, end_is) }) refl refl
 

@@ -13,8 +13,9 @@ use Rattle.mq_loose.specs.Staged.{IsStagedIn}
 use Rattle.mq_loose.specs.View.{state_of}
 use Rattle.mq_core.specs.declared.event.CoreRefusal.{CoreRefusal}
 use Rattle.mq_core.specs.declared.event.CoreRefusal.TheVariants.{OutOfMemory}
-use Rattle.mq_loose.proofs.Lifts.{Told, same_port, port_told, answer_at}
-use Rattle.mq_loose.proofs.Within.{staged_small}
+use Rattle.mq_core.proofs.MachineLifts.{Told, same_port, port_told, answer_at}
+use Rattle.mq_core.proofs.Within.{staged_small}
+use Rattle.mq_loose.proofs.Machines.{loose_machine}
 use Rattle.mq_loose.proofs.machine.LooseCore.stage.Goals as goal
 use Rattle.mq_loose.proofs.machine.LooseCore.stage.Goals.{Else-at-len, After-index, After-index_mut, After-stage, In_err-stage, In_ok-stage}
 
@@ -75,7 +76,7 @@ may : (c : After-index_mut) → staged_end (port_at c.self.inside.ports.items c.
 may c = (let is = ap staged_end (is_port (goal.at.After-index_mut c).After-index) in omega (arith, c.staged_end-count.ensures, c.end.ensures.is, is, c.if-count-end.false))
 
 told : (c : After-stage) (r : Result (Unit {0}) CoreRefusal) → Answers (Unit {0}) (after_stage c.index_mut.result.now c.in_ok-entry.field-0.entry c.in_ok-entry.field-0.tx c.in_ok-entry.field-0.lba c.in_ok-entry.field-0.block) c.index_mut.result.now c.stage.new.self r
-    → Told (Stage c.args.queue) c.self.inside.ledger.front (state_of c.self.inside) (record (state_of c.self.inside) { ports = set c.self.inside.ports.items c.queue.inside.0 c.stage.new.self }) r
+    → Told loose_machine (Stage c.args.queue) c.self.inside.ledger.front (state_of c.self.inside) (record (state_of c.self.inside) { ports = set c.self.inside.ports.items c.queue.inside.0 c.stage.new.self }) r
 told c r a =
     let s = state_of c.self.inside in
     let q = c.args.queue in
@@ -84,13 +85,13 @@ told c r a =
     let within : c.queue.inside.0 < length s.ports = omega arith in
     let there = may at in
     let after : PortState → PortState = stage_side (entries_in plain s) s.geometry q from (us_of s q) in
-    port_told c.self.inside.ledger.front q c.queue.inside.0 s c.index_mut.result.now c.stage.new.self (λ p. Unit {0}) after r within c.queue.view_is c.index_mut.ensures.value c.self.invariant.held
+    port_told loose_machine c.self.inside.ledger.front q c.queue.inside.0 s c.index_mut.result.now c.stage.new.self (λ p. Unit {0}) after r within c.queue.view_is c.index_mut.ensures.value c.self.invariant.held
     (subst (λ w. Answers (Unit {0}) w c.index_mut.result.now c.stage.new.self r) (staged at) a) (Stage q) (λ m. (own (goal.at.After-stage c).Else-at-len, there)) (λ m. tt) refl refl
 
-stays : (c : In_err-stage) → Told (Stage c.args.queue) c.self.inside.ledger.front (state_of c.self.inside) (record (state_of c.self.inside) { ports = set c.self.inside.ports.items c.queue.inside.0 c.stage.new.self }) (Err OutOfMemory)
+stays : (c : In_err-stage) → Told loose_machine (Stage c.args.queue) c.self.inside.ledger.front (state_of c.self.inside) (record (state_of c.self.inside) { ports = set c.self.inside.ports.items c.queue.inside.0 c.stage.new.self }) (Err OutOfMemory)
 stays c = told (goal.at.In_err-stage c).After-stage (Err OutOfMemory) c.in_err-stage.ensures.refused
 
-moves : (c : In_ok-stage) → Told (Stage c.args.queue) c.self.inside.ledger.front (state_of c.self.inside) (record (state_of c.self.inside) { ports = set c.self.inside.ports.items c.queue.inside.0 c.stage.new.self }) (Ok tt)
+moves : (c : In_ok-stage) → Told loose_machine (Stage c.args.queue) c.self.inside.ledger.front (state_of c.self.inside) (record (state_of c.self.inside) { ports = set c.self.inside.ports.items c.queue.inside.0 c.stage.new.self }) (Ok tt)
 moves c = told (goal.at.In_ok-stage c).After-stage (Ok tt) (tt, c.in_ok-stage.ensures.ok)
 
 pub invariant_of-self : goal.invariant_of-self

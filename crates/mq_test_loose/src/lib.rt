@@ -1,0 +1,7 @@
+//! Tests of the loose machine.
+#![tactic(auto)]
+
+#[cfg(test)]
+mod descriptors;
+#[cfg(test)]
+mod tests;
