@@ -9,9 +9,10 @@ use Rattle.mq_blocks.specs.Limits.{list_limit}
 use Rattle.mq_blocks.specs.Geometry.{homes_of, area_of, write_limit}
 use Rattle.mq_blocks.specs.declared.geometry.Geometry.{Geometry}
 use Rattle.mq_blocks.specs.Windows.{number_at, numbers}
-use Rattle.mq_area.specs.Reading.{Accepts, journal_stamp, header_of, logged_of, revoked_of, end_of, size_of, GoodCounts, RefusesHeader, RefusesList, RefusesRest, IsZero}
+use Rattle.mq_area.specs.Reading.{Accepts, journal_stamp, header_of, logged_of, revoked_of, end_of, size_of, GoodCounts, RefusesHeader, RefusesPlace, RefusesList, RefusesRest, IsZero}
 use Rattle.mq_area.specs.declared.descriptor.Expect.{Expect}
 use Rattle.mq_area.specs.declared.header.Header.{Header}
+use Rattle.mq_area.specs.declared.header.Stamp.{Stamp}
 use Rattle.mq_area.specs.declared.refusal.DescriptorRefusal.{DescriptorRefusal}
 use Rattle.mq_area.specs.declared.refusal.DescriptorRefusal.TheVariants.{Magic, Version, Queue, Number, Place, Previous, Counts, List as Listed, Rest, OutOfMemory}
 use Rattle.mq_blocks.proofs.DescriptorLimits.{further-none, further-one, further-most, limit-high, listed-high}
@@ -278,6 +279,19 @@ refused-rest g at b c d offset a s =
     let P : Header → Type 0 = λ h. RefusesRest (end_of h) (size_of h) (b ++ c) offset in
     let u : RefusesRest (end_of (shown t.version d)) (size_of (shown t.version d)) (b ++ c) offset = subst P t.header s in
     u.wrong (rest-is (write_limit g) (homes_of g) b (b ++ c) d (accepted-homes g) t offset u.low u.high)
+
+-- what the tests up to that of the place refuse, the header's refuse
+pub place-refused : (stamp : Stamp) (area limit : ℕ) (at : Expect) (h : Header) (e : DescriptorRefusal) → RefusesPlace stamp area at h e → RefusesHeader stamp area limit at h e
+place-refused stamp area limit at h (Magic found) r = r
+place-refused stamp area limit at h (Version found) r = r
+place-refused stamp area limit at h (Queue found) r = r
+place-refused stamp area limit at h (Number found) r = r
+place-refused stamp area limit at h (Place found) r = r
+place-refused stamp area limit at h (Previous place number) r = absurd r
+place-refused stamp area limit at h (Counts logged revoked) r = absurd r
+place-refused stamp area limit at h (Listed index found) r = absurd r
+place-refused stamp area limit at h (Rest offset) r = absurd r
+place-refused stamp area limit at h OutOfMemory r = absurd r
 
 -- So a block that is accepted is refused only when the call runs out of memory.
 pub refused-header : (area limit : ℕ) (at : Expect) (h : Header) (e : DescriptorRefusal) → GoodCounts journal_stamp area limit at h → RefusesHeader journal_stamp area limit at h e → ⊥

@@ -87,26 +87,28 @@ AreFew limit h = (h.logged + h.revoked ≤ most_listed limit h.version) × (h.lo
 abbrev pub GoodCounts : Stamp → (area limit : ℕ) → Expect → Header → Type 0
 GoodCounts stamp area limit at h = GoodPrevious stamp area at h × AreFew limit h
 
+-- the first of the tests up to that of the place that fails
+abbrev pub RefusesPlace : Stamp → ℕ → Expect → Header → DescriptorRefusal → Type 0
+RefusesPlace stamp area at h (Magic found) = (found ≡ h.magic) × (GoodMagic stamp h → ⊥)
+RefusesPlace stamp area at h (Version found) =
+    (found ≡ h.version) × GoodMagic stamp h × (GoodVersion stamp h → ⊥)
+RefusesPlace stamp area at h (Queue found) =
+    (found ≡ h.queue) × GoodVersion stamp h × (GoodQueue stamp at h → ⊥)
+RefusesPlace stamp area at h (Number found) =
+    (found ≡ h.number) × GoodQueue stamp at h × (GoodNumber stamp at h → ⊥)
+RefusesPlace stamp area at h (Place found) =
+    (found ≡ h.place) × GoodNumber stamp at h × (GoodPlace stamp area at h → ⊥)
+RefusesPlace stamp area at h _ = ⊥
+
 -- the first test of the header that fails
 abbrev pub RefusesHeader : Stamp → (area limit : ℕ) → Expect → Header → DescriptorRefusal → Type 0
-RefusesHeader stamp area limit at h (Magic found) = (found ≡ h.magic) × (GoodMagic stamp h → ⊥)
-RefusesHeader stamp area limit at h (Version found) =
-    (found ≡ h.version) × GoodMagic stamp h × (GoodVersion stamp h → ⊥)
-RefusesHeader stamp area limit at h (Queue found) =
-    (found ≡ h.queue) × GoodVersion stamp h × (GoodQueue stamp at h → ⊥)
-RefusesHeader stamp area limit at h (Number found) =
-    (found ≡ h.number) × GoodQueue stamp at h × (GoodNumber stamp at h → ⊥)
-RefusesHeader stamp area limit at h (Place found) =
-    (found ≡ h.place) × GoodNumber stamp at h × (GoodPlace stamp area at h → ⊥)
 RefusesHeader stamp area limit at h (Previous place number) =
     (place ≡ h.prev_place) × (number ≡ h.prev_number) × GoodPlace stamp area at h
     × (GoodPrevious stamp area at h → ⊥)
 RefusesHeader stamp area limit at h (Counts logged revoked) =
     (logged ≡ h.logged) × (revoked ≡ h.revoked) × GoodPrevious stamp area at h
     × (GoodCounts stamp area limit at h → ⊥)
-RefusesHeader stamp area limit at h (Listed index found) = ⊥
-RefusesHeader stamp area limit at h (Rest offset) = ⊥
-RefusesHeader stamp area limit at h OutOfMemory = ⊥
+RefusesHeader stamp area limit at h cause = RefusesPlace stamp area at h cause
 
 -- the list has this property up to the entry k, and with it no more
 abbrev pub StopsAt : (List ℕ → Type 0) → List ℕ → ℕ → Type 0

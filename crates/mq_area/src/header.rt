@@ -1,6 +1,6 @@
 // The fields of a descriptor before its lists.
 ghost use Rattle.std.specs.Prelude.{◌≡◌, ◌≤◌, ◌<◌, ◌+◌, ◌*◌, ℕ, length, slice_index, IsTrue, ◌↔◌, MatchResult};
-ghost use Rattle.mq_area.specs.Reading.{header_of, GoodCounts, RefusesHeader, IsPlaced, Follows, AreFew, further_of};
+ghost use Rattle.mq_area.specs.Reading.{header_of, GoodCounts, GoodPlace, RefusesHeader, RefusesPlace, IsPlaced, Follows, AreFew, further_of};
 ghost use Rattle.mq_blocks.specs.Descriptor.{most_listed};
 
 use crate::descriptor::{Expect, PlaceIs};
@@ -62,17 +62,16 @@ pub fn read_header(block: &[u8]) -> Header
     }
 }
 
-/// Makes the tests that need the header alone, and names the first that fails.
-pub fn check_header(
+/// Makes the tests up to that of the place, and names the first that fails.
+pub fn check_expected(
     h: &Header,
     stamp: Stamp,
     area: u32,
-    limit: u32,
     at: &Expect,
 ) -> Result<(), DescriptorRefusal>
     requires { 0 < area }
-    ensures { MatchResult result (λ _. GoodCounts stamp area limit at.now h.now)
-        (RefusesHeader stamp area limit at.now h.now) }
+    ensures { MatchResult result (λ _. GoodPlace stamp area at.now h.now)
+        (RefusesPlace stamp area at.now h.now) }
 {
     if h.magic != stamp.magic {
         return Err(DescriptorRefusal::Magic { found: h.magic });
@@ -89,6 +88,22 @@ pub fn check_header(
     if !is_placed(area, at.place, h.place) {
         return Err(DescriptorRefusal::Place { found: h.place });
     }
+    Ok(())
+}
+
+/// Makes the tests that need the header alone, and names the first that fails.
+pub fn check_header(
+    h: &Header,
+    stamp: Stamp,
+    area: u32,
+    limit: u32,
+    at: &Expect,
+) -> Result<(), DescriptorRefusal>
+    requires { 0 < area }
+    ensures { MatchResult result (λ _. GoodCounts stamp area limit at.now h.now)
+        (RefusesHeader stamp area limit at.now h.now) }
+{
+    check_expected(h, stamp, area, at)?;
     if !follows(h) {
         return Err(DescriptorRefusal::Previous {
             place: h.prev_place,

@@ -16,10 +16,10 @@ use Rattle.mq_nvme.specs.Says.{says}
 use Rattle.mq_image_laws.specs.Alike.{IsQueueAlike}
 use Rattle.mq_recover.specs.Recover.{IsWithinReach, where_of}
 use Rattle.mq_recover.specs.Refusals.{AreFound, AreRung, AreWords, IsFoundNext, IsIndex, IsNewest, IsReadable, IsRung, IsRungWhole, IsWholeChain, RefusesChain, RefusesNewest, RefusesNext, RefusesQueue, RefusesRequest, RefusesRung, before_where, block_where, entry_at, expected}
-use Rattle.mq_recover.specs.Refusals.RefusesChain.{ChainOutside, ChainStopped}
+use Rattle.mq_recover.specs.Refusals.RefusesChainBy.{ChainOutside, ChainStopped}
 use Rattle.mq_recover.specs.Refusals.RefusesNewest.{NewestCommit, NewestEntry, NewestLimit}
-use Rattle.mq_recover.specs.Refusals.RefusesNext.{NextApart, NextRefused}
-use Rattle.mq_recover.specs.Refusals.RefusesQueue.{QueueChain, QueueNewest, QueueRung, QueueWords}
+use Rattle.mq_recover.specs.Refusals.RefusesNextBy.{NextApart, NextRefused}
+use Rattle.mq_recover.specs.Refusals.RefusesQueueBy.{QueueChain, QueueNewest, QueueRung, QueueWords}
 use Rattle.mq_recover.specs.Refusals.RefusesRequest.{RequestEntry, RequestLimit}
 use Rattle.mq_recover.specs.Refusals.RefusesRung.{RungCommit, RungStopped}
 use Rattle.mq_recover.specs.declared.refusal.ChainRefusal.{ChainRefusal}

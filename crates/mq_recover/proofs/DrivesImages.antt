@@ -1,37 +1,37 @@
 -- Readable images: what reading finds is what is shown, and each image has one prefix and one top, or
 -- one cause for which it is refused.
-use Rattle.std.proofs.Common.{◌≡◌, ◌<◌, ◌≤◌, ◌⊎◌, inl, inr, ℕ, ◌+◌, ◌^◌, List, [], ◌∷◌, length, Option, None, refl, sym, ◌∙◌, ap, subst, arith, get_or}
+use Rattle.std.proofs.Common.{◌≡◌, ◌<◌, ◌≤◌, ◌⊎◌, inl, inr, ℕ, ◌+◌, ◌^◌, List, [], ◌∷◌, length, refl, sym, ◌∙◌, ap, subst, arith}
 use Rattle.std.proofs.lemmas.Bool.{cases_eq, cases_lt}
-use Rattle.std.specs.Prelude.{IfOk, IfErr, IsErrOf, Result, Ok, Err, slice_index_or}
+use Rattle.std.specs.Prelude.{IsErrOf, Err, slice_index_or}
 use Rattle.mq_ledger.proofs.Written.{form_sound}
 use Rattle.mq_blocks.specs.Blocks.{block_at}
 use Rattle.mq_blocks.specs.Descriptor.{Descriptor, IsReadOnce, journal_form}
 use Rattle.mq_blocks.specs.Drive.{PortImage}
 use Rattle.mq_blocks.specs.Geometry.{homes_of}
-use Rattle.mq_blocks.specs.Journal.{Shown, IsQueueChain, Has, AreWhole, AreInRow, IsPrefix, Reaches, ShowsNumber, number_limit}
+use Rattle.mq_blocks.specs.Journal.{Shown, IsQueueChain, Has, AreWhole, AreInRow, IsPrefix, Reaches, ShowsNumber}
 use Rattle.mq_blocks.specs.declared.geometry.Geometry.{Geometry}
 use Rattle.mq_nvme.specs.Says.{says}
 use Rattle.mq_ledger.specs.State.{port_at}
 use Rattle.mq_ledger.proofs.JournalChains.{queue-chain-once}
 use Rattle.mq_recover.specs.Drives.{DriveState, view_over}
 use Rattle.mq_recover.specs.Recover.{chain_at, IsSeenAt, AreFalling}
-use Rattle.mq_recover.specs.Merges.{HasNumber, IsTwice, RefusesTwice}
-use Rattle.mq_recover.specs.Queues.{AreChains, AreChainsRead, AreRead, RefusesReading}
+use Rattle.mq_area.specs.Reading.{Accepts, Refuses}
+use Rattle.mq_recover.specs.Merges.{RefusesTwice}
+use Rattle.mq_recover.specs.Queues.{AreChainsRead, RefusesReading}
 use Rattle.mq_recover.specs.Choices.{run_of, IsChosen, IsFoundIn}
 use Rattle.mq_recover.specs.Recovery.{IsReadPrefix}
-use Rattle.mq_recover.specs.Refusals.{IsReadable, AreReadable, RefusesQueue, RefusesSome}
+use Rattle.mq_recover.specs.Refusals.{IsReadable}
 use Rattle.mq_recover.specs.Images.{IsReadableImage, RefusesImage}
 use Rattle.mq_recover.specs.declared.choice.Chosen.{Chosen}
 use Rattle.mq_recover.specs.declared.choice.Found.{Found}
 use Rattle.mq_recover.specs.declared.queues.QueuesRead.{QueuesRead}
-use Rattle.mq_recover.specs.declared.refusal.ChainRefusal.{ChainRefusal}
 use Rattle.mq_recover.specs.declared.refusal.ImageFault.{ImageFault}
-use Rattle.mq_recover.specs.declared.refusal.ImageFault.TheVariants.{Bad, Limit, Twice, OutOfMemory}
+use Rattle.mq_recover.specs.declared.refusal.ImageFault.TheVariants.{OutOfMemory}
 use Rattle.mq_recover.proofs.Merges.{falls-under}
 use Rattle.mq_recover.proofs.Choices.{run-good, run-greatest, run-has, run-row}
+use Rattle.mq_recover.proofs.Readers.{journal-reader}
+use Rattle.mq_recover.proofs.ReadersImages.{image-refused-by, reading-refused-by, refuses-image-once-by, twice-refused-by}
 use Rattle.mq_recover.proofs.RecoverReadable.{readable-shown, shown-readable, chain-falls}
-use Rattle.mq_recover.proofs.RecoverCopies.{chain-of, chain-good}
-use Rattle.mq_recover.proofs.Refusals.{readable-refused, readable-once, refuses-queue-once}
 use Rattle.mq_recover.proofs.DrivesZones.{image-at}
 
 -- ---- the view of a queue
@@ -52,29 +52,6 @@ view-seen g d q base is =
 
 queue-chain : (g : Geometry) (d : DriveState) (q : ℕ) (ds : List Descriptor) → IsReadable g (port_at d.queues q) q d.root.base ds → IsQueueChain g (view_over g d) q ds
 queue-chain g d q ds readable = readable-shown g (view_over g d) (port_at d.queues q) q d.root.base ds (view-seen g d q d.root.base refl) readable
-
-pub queue-falls : (g : Geometry) (d : DriveState) (q : ℕ) (ds : List Descriptor) → IsReadable g (port_at d.queues q) q d.root.base ds → AreFalling d.root.base (2 ^ 64) ds
-queue-falls g d q ds readable =
-    let c = queue-chain g d q ds readable in
-    let number = c.limit in
-    chain-falls g (view_over g d) q c.number c.place (2 ^ 64) ds c.chain (omega (arith, number))
-
--- what the chains of readable queues are good for
-pub good-chains : (g : Geometry) (d : DriveState) (read : QueuesRead) (base : ℕ) → base ≡ d.root.base → AreRead g d read → AreChains (homes_of g) base read.chains.items
-good-chains g d read base base_is are =
-    let count = are.count in
-    let within : (q : ℕ) → q < length read.chains.items → q < g.queues = λ q low. omega (arith, count, low) in
-    let few = g.queues_high in
-    record {
-      few = omega (arith, count, few);
-      good = λ q low. let c = queue-chain g d q (chain_at read.chains.items q) (are.readable q (within q low)) in chain-good g (view_over g d) q c.number c.place (chain_at read.chains.items q) refl c.chain;
-      falling = λ q low. subst (λ (n : ℕ). AreFalling n (2 ^ 64) (chain_at read.chains.items q)) (sym base_is) (queue-falls g d q (chain_at read.chains.items q) (are.readable q (within q low)));
-      own = λ q low. let c = queue-chain g d q (chain_at read.chains.items q) (are.readable q (within q low)) in chain-of g (view_over g d) q c.number c.place (chain_at read.chains.items q) c.chain;
-    }
-
-pub queues-good : (g : Geometry) (d : DriveState) (r : Result QueuesRead ImageFault) → IfOk r (AreRead g d) → IfOk r (λ read. AreChains (homes_of g) d.root.base read.chains.items)
-queues-good g d (Ok read) are = good-chains g d read d.root.base refl are
-queues-good g d (Err e) are = tt
 
 image-read : (g : Geometry) (d : DriveState) (read : QueuesRead) (base : ℕ) (c : Chosen) → base ≡ d.root.base → AreChainsRead g d read → (p : IsChosen (homes_of g) base read.chains.items c) → IsReadPrefix g (view_over g d) (run_of base p.merged) read.top
 image-read g d read base c base_is all p =
@@ -118,25 +95,20 @@ found-in g d base read c found base_is all p items prefix_is top_is =
 
 -- ---- why an image is refused
 
-pub some-refused : (g : Geometry) (d : DriveState) (e : ImageFault) → d.root.base ≤ number_limit → RefusesSome g d e → RefusesReading g d e
-some-refused g d (Bad q cause) limit r = (limit, r)
-some-refused g d (Limit n) limit r = absurd r
-some-refused g d (Twice n a b) limit r = absurd r
-some-refused g d OutOfMemory limit r = r
-
 pub reading-refused : (g : Geometry) (d : DriveState) (e : ImageFault) → RefusesReading g d e → RefusesImage g d e
-reading-refused g d (Bad q cause) r = r
-reading-refused g d (Limit n) r = r
-reading-refused g d (Twice n a b) r = absurd r
-reading-refused g d OutOfMemory r = r
+reading-refused = reading-refused-by Accepts Refuses journal-reader
 
 pub twice-refused : (g : Geometry) (d : DriveState) (read : QueuesRead) (e : ImageFault) → AreChainsRead g d read → RefusesTwice read.chains.items e → RefusesImage g d e
-twice-refused g d read (Twice n a b) all r = (all.limit, chain_at read.chains.items, all.queues.readable, subst (λ (k : ℕ). IsTwice k (chain_at read.chains.items) n a b) all.queues.count r)
-twice-refused g d read (Bad q cause) all r = absurd r
-twice-refused g d read (Limit n) all r = absurd r
-twice-refused g d read OutOfMemory all r = r
+twice-refused = twice-refused-by Accepts Refuses journal-reader
 
 -- ---- one cause at most
+
+-- a readable image has no cause to be refused
+pub image-refused : (g : Geometry) (d : DriveState) (e : ImageFault) → IsReadableImage g d → RefusesImage g d e → ⊥
+image-refused = image-refused-by Accepts Refuses journal-reader
+
+pub refuses-image-once : (g : Geometry) (d : DriveState) (e f : ImageFault) → RefusesImage g d e → RefusesImage g d f → e ≡ f
+refuses-image-once = refuses-image-once-by Accepts Refuses journal-reader
 
 -- an image is readable exactly where its transactions are whole
 pub whole-readable : (g : Geometry) (d : DriveState) (chains : ℕ → List Descriptor) → AreWhole g (view_over g d) chains → IsReadableImage g d
@@ -157,19 +129,6 @@ readable-whole g d image = record {
   ];
 }
 
--- a readable image has no cause to be refused
-pub image-refused : (g : Geometry) (d : DriveState) (e : ImageFault) → IsReadableImage g d → RefusesImage g d e → ⊥
-image-refused g d (Limit base) image r = let l = image.limit in let is = r.0 in let high = r.1 in absurd (omega (arith, l, is, high))
-image-refused g d (Bad q cause) image r = readable-refused g (port_at d.queues q) q d.root.base (image.chains q) cause (image.readable q r.1.0) r.1.3
-image-refused g d (Twice n a b) image r =
-    let twice = r.3 in
-    let order = twice.order in
-    let low = twice.within in
-    let along : (q : ℕ) → q < g.queues → HasNumber (r.1 q) n → HasNumber (image.chains q) n =
-    λ q within has. subst (λ (l : List Descriptor). HasNumber l n) (readable-once g (port_at d.queues q) q d.root.base (r.1 q) (image.chains q) (r.2 q within) (image.readable q within)) has in
-    image.once a b n order low (along a (omega (arith, order, low)) twice.in_first) (along b low twice.in_second)
-image-refused g d OutOfMemory image r = r
-
 pub reaches-refused : (g : Geometry) (d : DriveState) (ds : List Descriptor) (e : ImageFault) → Reaches g (view_over g d) ds → RefusesImage g d e → ⊥
 reaches-refused g d ds e read r = image-refused g d e (whole-readable g d read.chains read.whole) r
 
@@ -183,106 +142,11 @@ read-readable g d ds top read = whole-readable g d read.chains read.whole
 pub read-reaches : (g : Geometry) (i : Shown) (ds : List Descriptor) (top : ℕ) → IsReadPrefix g i ds top → Reaches g i ds
 read-reaches g i ds top read = record { chains = read.chains; whole = read.whole; prefix = read.prefix }
 
--- ---- two causes are one
-
--- queues that are readable up to one that is refused do not go past another that is refused
-bad-apart : (g : Geometry) (d : DriveState) (p q : ℕ) (chains : ℕ → List Descriptor) (cause : ChainRefusal) → p < q → AreReadable g d q chains → RefusesQueue g (port_at d.queues p) p d.root.base cause → ⊥
-bad-apart g d p q chains cause low readable refuses = readable-refused g (port_at d.queues p) p d.root.base (chains p) cause (readable p low) refuses
-
-number-along : (ds es : List Descriptor) (n : ℕ) → ds ≡ es → HasNumber ds n → HasNumber es n
-number-along ds es n same has = subst (λ (l : List Descriptor). HasNumber l n) same has
-
--- of two pairs of the least two queues with a number the first are one
-first-low : (queues : ℕ) (chains others : ℕ → List Descriptor) (n a b c e : ℕ) → ((q : ℕ) → q < queues → chains q ≡ others q) → IsTwice queues chains n a b → IsTwice queues others n c e → a < c → ⊥
-first-low queues chains others n a b c e same s t low =
-    let x = t.order in
-    let y = t.within in
-    t.others a (omega (arith, low, x)) (omega (arith, low)) (number-along (chains a) (others a) n (same a (omega (arith, low, x, y))) s.in_first)
-
-second-low : (queues : ℕ) (chains others : ℕ → List Descriptor) (n a b c e : ℕ) → ((q : ℕ) → q < queues → chains q ≡ others q) → IsTwice queues chains n a b → IsTwice queues others n c e → a ≡ c → b < e → ⊥
-second-low queues chains others n a b c e same s t first low =
-    let x = s.order in
-    let y = t.within in
-    t.others b low (omega (arith, x, first)) (number-along (chains b) (others b) n (same b (omega (arith, low, y))) s.in_second)
-
-twice-least : (queues : ℕ) (chains others : ℕ → List Descriptor) (n m a b c e : ℕ) → ((q : ℕ) → q < queues → chains q ≡ others q) → IsTwice queues chains n a b → IsTwice queues others m c e → n ≤ m
-twice-least queues chains others n m a b c e same s t =
-    let x = t.order in
-    let y = t.within in
-    s.least m c e x y (number-along (others c) (chains c) m (sym (same c (omega (arith, x, y)))) t.in_first) (number-along (others e) (chains e) m (sym (same e y)) t.in_second)
-
-twice-same : (queues : ℕ) (chains others : ℕ → List Descriptor) (n m a b c e : ℕ) → ((q : ℕ) → q < queues → chains q ≡ others q) → IsTwice queues chains n a b → IsTwice queues others m c e
-    → (n ≡ m) × (a ≡ c) × (b ≡ e)
-twice-same queues chains others n m a b c e same s t =
-    let back : (q : ℕ) → q < queues → others q ≡ chains q = λ q low. sym (same q low) in
-    let u = twice-least queues chains others n m a b c e same s t in
-    let v = twice-least queues others chains m n c e a b back t s in
-    let number : n ≡ m = omega (arith, u, v) in
-    let t' : IsTwice queues others n c e = subst (λ (k : ℕ). IsTwice queues others k c e) (sym number) t in
-    let first : a ≡ c = elim (cases_lt a c) [
-      | inl low ↦ absurd (first-low queues chains others n a b c e same s t' low)
-      | inr high ↦ elim (cases_lt c a) [
-        | inl low ↦ absurd (first-low queues others chains n c e a b back t' s low)
-        | inr low ↦ omega (arith, high, low)
-      ]
-    ] in
-    let second : b ≡ e = elim (cases_lt b e) [
-      | inl low ↦ absurd (second-low queues chains others n a b c e same s t' first low)
-      | inr high ↦ elim (cases_lt e b) [
-        | inl low ↦ absurd (second-low queues others chains n c e a b back t' s (sym first) low)
-        | inr low ↦ omega (arith, high, low)
-      ]
-    ] in
-    (number, first, second)
-
-bad-once : (g : Geometry) (d : DriveState) (p q : ℕ) (c f : ChainRefusal) → RefusesSome g d (Bad p c) → RefusesSome g d (Bad q f) → Bad p c ≡ Bad q f
-bad-once g d p q c f r s = elim (cases_eq p q) [
-  | inl at ↦
-      let same = refuses-queue-once g (port_at d.queues p) p d.root.base c f r.3 (subst (λ (n : ℕ). RefusesQueue g (port_at d.queues n) n d.root.base f) (sym at) s.3) in
-      λ k. Bad (at k) (same k)
-  | inr other ↦ elim (cases_lt p q) [
-    | inl low ↦ absurd (bad-apart g d p q s.1 c low s.2 r.3)
-    | inr high ↦ absurd (bad-apart g d q p r.1 f (omega (arith, other, high)) r.2 s.3)
-  ]
-]
-
-pub refuses-image-once : (g : Geometry) (d : DriveState) (e f : ImageFault) → RefusesImage g d e → RefusesImage g d f → e ≡ f
-refuses-image-once g d (Limit a) (Limit b) r s = ap (λ (n : ℕ). Limit n) (r.0 ∙ sym s.0)
-refuses-image-once g d (Limit a) (Bad q c) r s = let x = r.0 in let y = r.1 in let z = s.0 in absurd (omega (arith, x, y, z))
-refuses-image-once g d (Limit a) (Twice n q p) r s = let x = r.0 in let y = r.1 in let z = s.0 in absurd (omega (arith, x, y, z))
-refuses-image-once g d (Limit a) OutOfMemory r s = absurd s
-refuses-image-once g d (Bad q c) (Limit a) r s = let x = s.0 in let y = s.1 in let z = r.0 in absurd (omega (arith, x, y, z))
-refuses-image-once g d (Bad q c) (Bad p f) r s = bad-once g d q p c f r.1 s.1
-refuses-image-once g d (Bad q c) (Twice n p t) r s = absurd (bad-apart g d q g.queues s.1 c r.1.0 s.2 r.1.3)
-refuses-image-once g d (Bad q c) OutOfMemory r s = absurd s
-refuses-image-once g d (Twice n q p) (Limit a) r s = let x = s.0 in let y = s.1 in let z = r.0 in absurd (omega (arith, x, y, z))
-refuses-image-once g d (Twice n p t) (Bad q c) r s = absurd (bad-apart g d q g.queues r.1 c s.1.0 r.2 s.1.3)
-refuses-image-once g d (Twice n q p) (Twice m t u) r s =
-    let same = twice-same g.queues r.1 s.1 n m q p t u (λ k low. readable-once g (port_at d.queues k) k d.root.base (r.1 k) (s.1 k) (r.2 k low) (s.2 k low)) r.3 s.3 in
-    λ k. Twice (same.0 k) (same.1 k) (same.2 k)
-refuses-image-once g d (Twice n q p) OutOfMemory r s = absurd s
-refuses-image-once g d OutOfMemory f r s = absurd r
-
 -- a refusal is the one cause
 pub err-exact : (A : Type 0) (g : Geometry) (d : DriveState) (f e : ImageFault) → (f ≡ OutOfMemory) ⊎ RefusesImage g d f → RefusesImage g d e → IsErrOf {T = A} (Err f) e ⊎ IsErrOf {T = A} (Err f) OutOfMemory
 err-exact A g d f e given r = elim given [
   | inl x ↦ inr (ap (λ (z : ImageFault). Err z) x)
   | inr x ↦ inl (ap (λ (z : ImageFault). Err z) (refuses-image-once g d f e x r))
-]
-
--- chains that were read have no cause for which they can't be
-reading-apart : (g : Geometry) (d : DriveState) (read : QueuesRead) (e : ImageFault) → AreChainsRead g d read → RefusesReading g d e → ⊥
-reading-apart g d read (Limit base) are r = let l = are.limit in let is = r.0 in let high = r.1 in absurd (omega (arith, l, is, high))
-reading-apart g d read (Bad q cause) are r = readable-refused g (port_at d.queues q) q d.root.base (chain_at read.chains.items q) cause (are.queues.readable q r.1.0) r.1.3
-reading-apart g d read (Twice n a b) are r = r
-reading-apart g d read OutOfMemory are r = r
-
-pub queues-exact : (g : Geometry) (d : DriveState) (r : Result QueuesRead ImageFault) → d.root.base ≤ number_limit → IfOk r (AreRead g d) → IfErr r (λ e. (e ≡ OutOfMemory) ⊎ RefusesSome g d e)
-    → (e : ImageFault) → RefusesReading g d e → IsErrOf r e ⊎ IsErrOf r OutOfMemory
-queues-exact g d (Ok read) limit ok bad e refuses = absurd (reading-apart g d read e (record { limit = limit; queues = ok }) refuses)
-queues-exact g d (Err f) limit ok bad e refuses = elim bad [
-  | inl x ↦ inr (ap (λ (z : ImageFault). Err z) x)
-  | inr x ↦ inl (ap (λ (z : ImageFault). Err z) (refuses-image-once g d f e (reading-refused g d f (some-refused g d f limit x)) (reading-refused g d e refuses)))
 ]
 
 -- ---- one prefix and one top

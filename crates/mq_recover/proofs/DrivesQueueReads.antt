@@ -11,14 +11,16 @@ use Rattle.mq_blocks.specs.declared.geometry.Geometry.{Geometry}
 use Rattle.mq_ledger.specs.State.{port_at}
 use Rattle.mq_recover.specs.Drives.{DriveState, IsQuiescentDrive, states, view_over}
 use Rattle.mq_recover.specs.Recover.{chain_at, AreFalling}
-use Rattle.mq_recover.specs.Queues.{AreRead, newest_number}
-use Rattle.mq_recover.specs.Refusals.{IsReadable, IsGreatest, AreReadable, RefusesQueue, RefusesSome}
+use Rattle.mq_recover.specs.Queues.{AreReadBy, newest_number}
+use Rattle.mq_recover.specs.Reader.{Accepting, IsReader, Refusing}
+use Rattle.mq_recover.specs.Refusals.{IsReadableBy, IsGreatest, AreReadableBy, RefusesQueueBy, RefusesSomeBy}
 use Rattle.mq_recover.specs.declared.queues.QueuesRead.{QueuesRead}
 use Rattle.mq_recover.specs.declared.refusal.ChainRefusal.{ChainRefusal}
 use Rattle.mq_recover.specs.declared.refusal.ChainRefusal.TheVariants as chain
 use Rattle.mq_recover.specs.declared.refusal.ImageFault.{ImageFault}
 use Rattle.mq_recover.specs.declared.refusal.ImageFault.TheVariants.{Bad, OutOfMemory}
-use Rattle.mq_recover.proofs.DrivesImages.{view-seen, queue-falls}
+use Rattle.mq_recover.proofs.DrivesImages.{view-seen}
+use Rattle.mq_recover.proofs.Readers.{readable-falls}
 use Rattle.mq_recover.proofs.Merges.{falls-under}
 use Rattle.mq_recover.proofs.DrivesPortRows.{state-at}
 
@@ -57,14 +59,14 @@ ShowsBelow i queues chains n =
     ⊎ ((q : ℕ) × (c : ℕ) × (s : WriteFields) × (q < queues) × (i.head q ≤ c) × (c < i.doorbell q) × (i.entry q (c % depth) ≡ Some s) × (s.0 ≡ n)))
 
 -- the first queues are readable, and these are their chains and the greatest number so far
-pub record AreReadTo (g : Geometry) (d : DriveState) (queues : ℕ) (chains : List (List Descriptor)) (top : ℕ) : Type 0 where
+pub record AreReadTo (accepts : Accepting) (g : Geometry) (d : DriveState) (queues : ℕ) (chains : List (List Descriptor)) (top : ℕ) : Type 0 where
   pub count : length chains ≡ queues
-  pub readable : AreReadable g d queues (chain_at chains)
+  pub readable : AreReadableBy accepts g d queues (chain_at chains)
   pub shown : ShowsBelow (view_over g d) queues (chain_at chains) top
   pub greatest : (n : ℕ) → ShowsBelow (view_over g d) queues (chain_at chains) n → n ≤ top
 
-pub none-read : (g : Geometry) (d : DriveState) (chains : List (List Descriptor)) (top : ℕ) → chains ≡ [] → top ≡ d.root.base → AreReadTo g d 0 chains top
-none-read g d chains top none is = record {
+pub none-read : (accepts : Accepting) (g : Geometry) (d : DriveState) (chains : List (List Descriptor)) (top : ℕ) → chains ≡ [] → top ≡ d.root.base → AreReadTo accepts g d 0 chains top
+none-read accepts g d chains top none is = record {
   count = ap length none;
   readable = λ q low. absurd (omega (arith, low));
   shown = inl is;
@@ -99,90 +101,91 @@ newest-shown : (i : Shown) (queues : ℕ) (chains : List (List Descriptor)) (ds 
 newest-shown i queues chains [] is = inl refl
 newest-shown i queues chains (d ∷ ds) is = inr (inl (queues, d, omega arith, subst (λ (l : List Descriptor). Has l d) (sym is) (inl refl), refl))
 
-pub more-read : (g : Geometry) (d : DriveState) (queues top k new : ℕ) (chains more : List (List Descriptor)) (ds : List Descriptor) → AreReadTo g d queues chains top → IsReadable g (port_at d.queues queues) queues d.root.base ds
-    → IsGreatest (port_at d.queues queues) (port_at d.queues queues).head (port_at d.queues queues).doorbell k → more ≡ chains ++ ds ∷ [] → new ≡ max top (max (newest_number d.root.base ds) k) → AreReadTo g d (queues + 1) more new
-more-read g d queues top k new chains more ds read readable greatest is new_is =
-    let i = view_over g d in
-    let seen = view-seen g d queues d.root.base refl in
-    let has = has-more queues chains more ds read.count is in
-    let falls = queue-falls g d queues ds readable in
-    let n = newest_number d.root.base ds in
-    let count = read.count in
-    let above_top : top ≤ new = omega (arith, new_is) in
-    let above_newest : n ≤ new = omega (arith, new_is) in
-    let above_entries : k ≤ new = omega (arith, new_is) in
-    record {
-      count = ap length is ∙ length-append chains (ds ∷ []) ∙ ap (λ (m : ℕ). m + 1) count;
-      readable = λ q low. elim (cases_eq q queues) [
-        | inl same ↦ subst (λ (m : ℕ). IsReadable g (port_at d.queues m) m d.root.base (chain_at more m)) (sym same) (subst (IsReadable g (port_at d.queues queues) queues d.root.base) (sym has.last) readable)
-        | inr other ↦
-            let lower : q < queues = omega (arith, low, other) in
-            subst (IsReadable g (port_at d.queues q) q d.root.base) (sym (has.before q lower)) (read.readable q lower)
-      ];
-      shown = elim (cases_eq new top) [
-        | inl same ↦ subst (ShowsBelow i (queues + 1) (chain_at more)) (sym same) (shows-more i queues top chains more ds has read.shown)
-        | inr above ↦ elim (cases_eq new n) [
-          | inl same ↦ subst (ShowsBelow i (queues + 1) (chain_at more)) (sym same) (newest-shown i queues more ds has.last)
-          | inr apart ↦
-              let last : k ≡ new = omega (arith, new_is, above, apart) in
-              elim greatest.shown [
-                | inl z ↦ absurd (omega (arith, z, last, above_newest, apart))
-                | inr x ↦ inr (inr (queues, x.0, x.1, omega arith, subst (λ (m : ℕ). m ≤ x.0) (sym seen.head_is) x.2, subst (λ (m : ℕ). x.0 < m) (sym seen.doorbell_is) x.3, seen.entry_is (x.0 % depth) ∙ x.4, x.5 ∙ last))
-              ]
-        ]
-      ];
-      greatest = λ m shows. elim shows [
-        | inl x ↦ let b = read.greatest m (inl x) in omega (arith, b, above_top)
-        | inr y ↦ elim y [
-          | inl x ↦ elim (cases_eq x.0 queues) [
-            | inl same ↦
-                let there : Has ds x.1 = subst (λ (l : List Descriptor). Has l x.1) (ap (chain_at more) same ∙ has.last) x.3 in
-                let b = newest-above d.root.base (2 ^ 64) ds x.1 falls there in
-                let number = x.4 in
-                omega (arith, b, above_newest, number)
-            | inr other ↦
-                let low = x.2 in
-                let lower : x.0 < queues = omega (arith, low, other) in
-                let b = read.greatest m (inr (inl (x.0, x.1, lower, subst (λ (l : List Descriptor). Has l x.1) (has.before x.0 lower) x.3, x.4))) in
-                omega (arith, b, above_top)
+module _ (accepts : Accepting) (refuses : Refusing) (reader : IsReader accepts refuses) where
+  pub more-read : (g : Geometry) (d : DriveState) (queues top k new : ℕ) (chains more : List (List Descriptor)) (ds : List Descriptor) → AreReadTo accepts g d queues chains top → IsReadableBy accepts g (port_at d.queues queues) queues d.root.base ds
+      → IsGreatest (port_at d.queues queues) (port_at d.queues queues).head (port_at d.queues queues).doorbell k → more ≡ chains ++ ds ∷ [] → new ≡ max top (max (newest_number d.root.base ds) k) → AreReadTo accepts g d (queues + 1) more new
+  more-read g d queues top k new chains more ds read readable greatest is new_is =
+      let i = view_over g d in
+      let seen = view-seen g d queues d.root.base refl in
+      let has = has-more queues chains more ds read.count is in
+      let falls = readable-falls accepts refuses reader g (port_at d.queues queues) queues d.root.base ds readable in
+      let n = newest_number d.root.base ds in
+      let count = read.count in
+      let above_top : top ≤ new = omega (arith, new_is) in
+      let above_newest : n ≤ new = omega (arith, new_is) in
+      let above_entries : k ≤ new = omega (arith, new_is) in
+      record {
+        count = ap length is ∙ length-append chains (ds ∷ []) ∙ ap (λ (m : ℕ). m + 1) count;
+        readable = λ q low. elim (cases_eq q queues) [
+          | inl same ↦ subst (λ (m : ℕ). IsReadableBy accepts g (port_at d.queues m) m d.root.base (chain_at more m)) (sym same) (subst (IsReadableBy accepts g (port_at d.queues queues) queues d.root.base) (sym has.last) readable)
+          | inr other ↦
+              let lower : q < queues = omega (arith, low, other) in
+              subst (IsReadableBy accepts g (port_at d.queues q) q d.root.base) (sym (has.before q lower)) (read.readable q lower)
+        ];
+        shown = elim (cases_eq new top) [
+          | inl same ↦ subst (ShowsBelow i (queues + 1) (chain_at more)) (sym same) (shows-more i queues top chains more ds has read.shown)
+          | inr above ↦ elim (cases_eq new n) [
+            | inl same ↦ subst (ShowsBelow i (queues + 1) (chain_at more)) (sym same) (newest-shown i queues more ds has.last)
+            | inr apart ↦
+                let last : k ≡ new = omega (arith, new_is, above, apart) in
+                elim greatest.shown [
+                  | inl z ↦ absurd (omega (arith, z, last, above_newest, apart))
+                  | inr x ↦ inr (inr (queues, x.0, x.1, omega arith, subst (λ (m : ℕ). m ≤ x.0) (sym seen.head_is) x.2, subst (λ (m : ℕ). x.0 < m) (sym seen.doorbell_is) x.3, seen.entry_is (x.0 % depth) ∙ x.4, x.5 ∙ last))
+                ]
           ]
-          | inr x ↦ elim (cases_eq x.0 queues) [
-            | inl same ↦
-                let low = subst (λ (q : ℕ). i.head q ≤ x.1) same x.4 in
-                let high = subst (λ (q : ℕ). x.1 < i.doorbell q) same x.5 in
-                let says_is = subst (λ (q : ℕ). i.entry q (x.1 % depth) ≡ Some x.2) same x.6 in
-                let b = greatest.above x.1 x.2 (subst (λ (n : ℕ). n ≤ x.1) seen.head_is low) (subst (λ (n : ℕ). x.1 < n) seen.doorbell_is high) (sym (seen.entry_is (x.1 % depth)) ∙ says_is) in
-                let number = x.7 in
-                omega (arith, b, above_entries, number)
-            | inr other ↦
-                let low = x.3 in
-                let b = read.greatest m (inr (inr (x.0, x.1, x.2, omega (arith, low, other), x.4, x.5, x.6, x.7))) in
-                omega (arith, b, above_top)
+        ];
+        greatest = λ m shows. elim shows [
+          | inl x ↦ let b = read.greatest m (inl x) in omega (arith, b, above_top)
+          | inr y ↦ elim y [
+            | inl x ↦ elim (cases_eq x.0 queues) [
+              | inl same ↦
+                  let there : Has ds x.1 = subst (λ (l : List Descriptor). Has l x.1) (ap (chain_at more) same ∙ has.last) x.3 in
+                  let b = newest-above d.root.base (2 ^ 64) ds x.1 falls there in
+                  let number = x.4 in
+                  omega (arith, b, above_newest, number)
+              | inr other ↦
+                  let low = x.2 in
+                  let lower : x.0 < queues = omega (arith, low, other) in
+                  let b = read.greatest m (inr (inl (x.0, x.1, lower, subst (λ (l : List Descriptor). Has l x.1) (has.before x.0 lower) x.3, x.4))) in
+                  omega (arith, b, above_top)
+            ]
+            | inr x ↦ elim (cases_eq x.0 queues) [
+              | inl same ↦
+                  let low = subst (λ (q : ℕ). i.head q ≤ x.1) same x.4 in
+                  let high = subst (λ (q : ℕ). x.1 < i.doorbell q) same x.5 in
+                  let says_is = subst (λ (q : ℕ). i.entry q (x.1 % depth) ≡ Some x.2) same x.6 in
+                  let b = greatest.above x.1 x.2 (subst (λ (n : ℕ). n ≤ x.1) seen.head_is low) (subst (λ (n : ℕ). x.1 < n) seen.doorbell_is high) (sym (seen.entry_is (x.1 % depth)) ∙ says_is) in
+                  let number = x.7 in
+                  omega (arith, b, above_entries, number)
+              | inr other ↦
+                  let low = x.3 in
+                  let b = read.greatest m (inr (inr (x.0, x.1, x.2, omega (arith, low, other), x.4, x.5, x.6, x.7))) in
+                  omega (arith, b, above_top)
+            ]
           ]
-        ]
-      ];
-    }
+        ];
+      }
 
-pub all-read : (g : Geometry) (d : DriveState) (queues top : ℕ) (chains : List (List Descriptor)) (read : QueuesRead) → AreReadTo g d queues chains top → queues ≡ g.queues → read.chains.items ≡ chains → read.top ≡ top → AreRead g d read
-all-read g d queues top chains read are all items top_is =
-    let i = view_over g d in
-    let is : AreReadTo g d g.queues read.chains.items read.top =
-    subst (λ (n : ℕ). AreReadTo g d n read.chains.items read.top) all
-    (subst (AreReadTo g d queues read.chains.items) (sym top_is) (subst (λ (l : List (List Descriptor)). AreReadTo g d queues l top) (sym items) are)) in
-    record {
-      count = is.count;
-      readable = is.readable;
-      top = record { shown = record { where_from = is.shown }; greatest = λ n shows. is.greatest n shows.where_from };
-    }
+  pub all-read : (g : Geometry) (d : DriveState) (queues top : ℕ) (chains : List (List Descriptor)) (read : QueuesRead) → AreReadTo accepts g d queues chains top → queues ≡ g.queues → read.chains.items ≡ chains → read.top ≡ top → AreReadBy accepts g d read
+  all-read g d queues top chains read are all items top_is =
+      let i = view_over g d in
+      let is : AreReadTo accepts g d g.queues read.chains.items read.top =
+      subst (λ (n : ℕ). AreReadTo accepts g d n read.chains.items read.top) all
+      (subst (AreReadTo accepts g d queues read.chains.items) (sym top_is) (subst (λ (l : List (List Descriptor)). AreReadTo accepts g d queues l top) (sym items) are)) in
+      record {
+        count = is.count;
+        readable = is.readable;
+        top = record { shown = record { where_from = is.shown }; greatest = λ n shows. is.greatest n shows.where_from };
+      }
 
--- a queue that is refused after others that are readable
-pub queue-refused : (g : Geometry) (d : DriveState) (queues top : ℕ) (chains : List (List Descriptor)) (cause : ChainRefusal) (e : ImageFault) → AreReadTo g d queues chains top → queues < g.queues
-    → (cause ≡ chain.OutOfMemory) ⊎ RefusesQueue g (port_at d.queues queues) queues d.root.base cause
-    → ((cause ≡ chain.OutOfMemory) × (e ≡ OutOfMemory)) ⊎ ((cause ≢ chain.OutOfMemory) × (e ≡ Bad queues cause)) → (e ≡ OutOfMemory) ⊎ RefusesSome g d e
-queue-refused g d queues top chains cause e read low refused given = elim given [
-  | inl x ↦ inl x.1
-  | inr x ↦ elim refused [
-    | inl none ↦ absurd (x.0 none)
-    | inr refuses ↦ inr (subst (RefusesSome g d) (sym x.1) (low, chain_at chains, read.readable, refuses))
+  -- a queue that is refused after others that are readable
+  pub queue-refused : (g : Geometry) (d : DriveState) (queues top : ℕ) (chains : List (List Descriptor)) (cause : ChainRefusal) (e : ImageFault) → AreReadTo accepts g d queues chains top → queues < g.queues
+      → (cause ≡ chain.OutOfMemory) ⊎ RefusesQueueBy accepts refuses g (port_at d.queues queues) queues d.root.base cause
+      → ((cause ≡ chain.OutOfMemory) × (e ≡ OutOfMemory)) ⊎ ((cause ≢ chain.OutOfMemory) × (e ≡ Bad queues cause)) → (e ≡ OutOfMemory) ⊎ RefusesSomeBy accepts refuses g d e
+  queue-refused g d queues top chains cause e read low refused given = elim given [
+    | inl x ↦ inl x.1
+    | inr x ↦ elim refused [
+      | inl none ↦ absurd (x.0 none)
+      | inr is ↦ inr (subst (RefusesSomeBy accepts refuses g d) (sym x.1) (low, chain_at chains, read.readable, is))
+    ]
   ]
-]

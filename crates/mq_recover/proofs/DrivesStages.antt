@@ -235,39 +235,54 @@ moved-heads g s e queues root heads images q own =
     (λ b. inr (b ∙ sym (view-doorbell g s q)))
     (either (image_at queues q).head p.head p.doorbell t.head t.stored_head (images.each q own).head moving.head moving.stored_head)
 
-going-stands : (g : Geometry) (s e : DriveState) (ds : List Descriptor) (top : ℕ) (writes : Writes) (queues : List PortImage) (root : PortImage) → IsQuiescentDrive g s → IsReadPrefix g (view_over g s) ds top → AreHomeWrites g s ds writes
-    → AreKept g s e → IsGoing g s e writes → AreImages g e queues root → StandsIn g s ds top queues root
-going-stands g s e ds top writes queues root still read are kept going images =
+-- Over the old base, words and blocks are as at the start, but for the blocks that are written.
+abbrev pub IsLeftOld : (g : Geometry) (s : DriveState) (writes : Writes) (queues : List PortImage) (root : PortImage) → Type 0
+IsLeftOld g s writes queues root =
+    IsSameLog g (view_over g s) (shown journal_reading g queues root) × (root.base ≡ s.root.base) × AreSameHeads g (view_over g s) (shown journal_reading g queues root)
+    × ((x : ℕ) → x < homes_of g → written writes x ≡ None → (shown journal_reading g queues root).home x ≡ (view_over g s).home x)
+
+-- Over the new base, all is home.
+abbrev pub IsLeftNew : (g : Geometry) (s : DriveState) (writes : Writes) (top : ℕ) (queues : List PortImage) (root : PortImage) → Type 0
+IsLeftNew g s writes top queues root =
+    IsSameLog g (view_over g s) (shown journal_reading g queues root) × (root.base ≡ top) × AreMovedHeads g (view_over g s) (shown journal_reading g queues root)
+    × ((x : ℕ) → x < homes_of g → (shown journal_reading g queues root).home x ≡ or_else (written writes x) ((view_over g s).home x))
+
+going-left : (g : Geometry) (s e : DriveState) (writes : Writes) (queues : List PortImage) (root : PortImage) → IsQuiescentDrive g s → AreKept g s e → IsGoing g s e writes → AreImages g e queues root → IsLeftOld g s writes queues root
+going-left g s e writes queues root still kept going images =
     let words = going.words None tt in
     let base : root.base ≡ s.root.base = ⊎_elim (λ a. a ∙ words.base) (λ b. b ∙ words.stored_base) images.root_is.base in
-    over-old g s ds top writes queues root read are (same-log g s e queues root still kept images) base (same-heads g s e queues root (words-heads g s e going.words) images)
-    (λ x inside none. going-home g s e writes queues root x still kept going images inside none)
+    (same-log g s e queues root still kept images, base, same-heads g s e queues root (words-heads g s e going.words) images, λ x inside none. going-home g s e writes queues root x still kept going images inside none)
 
-raising-stands : (g : Geometry) (s e : DriveState) (ds : List Descriptor) (top : ℕ) (writes : Writes) (queues : List PortImage) (root : PortImage) → IsQuiescentDrive g s → IsReadPrefix g (view_over g s) ds top → AreHomeWrites g s ds writes
-    → AreKept g s e → IsRaising g s e writes top → AreImages g e queues root → StandsIn g s ds top queues root
-raising-stands g s e ds top writes queues root still read are kept raising images =
+raising-left : (g : Geometry) (s e : DriveState) (top : ℕ) (writes : Writes) (queues : List PortImage) (root : PortImage) → IsQuiescentDrive g s → AreKept g s e → IsRaising g s e writes top → AreImages g e queues root
+    → IsLeftOld g s writes queues root ⊎ IsLeftNew g s writes top queues root
+raising-left g s e top writes queues root still kept raising images =
     let same = same-log g s e queues root still kept images in
     let heads = same-heads g s e queues root raising.heads images in
     ⊎_elim
-    (λ old. over-old g s ds top writes queues root read are same old heads
-    (λ x inside none. homes-home g s e writes queues root x still kept raising.homes images inside ∙ ap (λ (o : Option (List ℕ)). or_else o ((view_over g s).home x)) none))
-    (λ new. over-top g s ds top writes queues root read are same new (λ q own. inl (heads q own)) (λ x inside. homes-home g s e writes queues root x still kept raising.homes images inside))
+    (λ old. inl (same, old, heads, λ x inside none. homes-home g s e writes queues root x still kept raising.homes images inside ∙ ap (λ (o : Option (List ℕ)). or_else o ((view_over g s).home x)) none))
+    (λ new. inr (same, new, λ q own. inl (heads q own), λ x inside. homes-home g s e writes queues root x still kept raising.homes images inside))
     (either root.base s.root.base top e.root.base e.root.stored_base images.root_is.base raising.base raising.stored_base)
 
-moving-stands : (g : Geometry) (s e : DriveState) (ds : List Descriptor) (top : ℕ) (writes : Writes) (queues : List PortImage) (root : PortImage) → IsQuiescentDrive g s → IsReadPrefix g (view_over g s) ds top → AreHomeWrites g s ds writes
-    → AreKept g s e → IsMoving g s e writes top → AreImages g e queues root → StandsIn g s ds top queues root
-moving-stands g s e ds top writes queues root still read are kept moving images =
+moving-left : (g : Geometry) (s e : DriveState) (top : ℕ) (writes : Writes) (queues : List PortImage) (root : PortImage) → IsQuiescentDrive g s → AreKept g s e → IsMoving g s e writes top → AreImages g e queues root → IsLeftNew g s writes top queues root
+moving-left g s e top writes queues root still kept moving images =
     let base : root.base ≡ top = ⊎_elim (λ a. a ∙ moving.base) (λ b. b ∙ moving.stored_base) images.root_is.base in
-    over-top g s ds top writes queues root read are (same-log g s e queues root still kept images) base (moved-heads g s e queues root moving.heads images)
-    (λ x inside. homes-home g s e writes queues root x still kept moving.homes images inside)
+    (same-log g s e queues root still kept images, base, moved-heads g s e queues root moving.heads images, λ x inside. homes-home g s e writes queues root x still kept moving.homes images inside)
+
+-- what each image is at each stage
+pub stage-left : (g : Geometry) (s e : DriveState) (top : ℕ) (writes : Writes) (queues : List PortImage) (root : PortImage) → IsQuiescentDrive g s → IsStage g s e writes top → AreImages g e queues root
+    → IsLeftOld g s writes queues root ⊎ IsLeftNew g s writes top queues root
+stage-left g s e top writes queues root still stage images = ⊎_elim
+    (λ going. inl (going-left g s e writes queues root still stage.0 going images))
+    (λ later. ⊎_elim
+    (λ raising. raising-left g s e top writes queues root still stage.0 raising images)
+    (λ moving. inr (moving-left g s e top writes queues root still stage.0 moving images))
+    later)
+    stage.1
 
 -- at each stage every image stands for what stood at the start
 pub stage-stands : (g : Geometry) (s e : DriveState) (ds : List Descriptor) (top : ℕ) (writes : Writes) → IsQuiescentDrive g s → IsReadPrefix g (view_over g s) ds top → AreHomeWrites g s ds writes
     → IsStage g s e writes top → StandsAs g s ds top e
 stage-stands g s e ds top writes still read are stage queues root images = ⊎_elim
-    (λ going. going-stands g s e ds top writes queues root still read are stage.0 going images)
-    (λ later. ⊎_elim
-    (λ raising. raising-stands g s e ds top writes queues root still read are stage.0 raising images)
-    (λ moving. moving-stands g s e ds top writes queues root still read are stage.0 moving images)
-    later)
-    stage.1
+    (λ old. over-old g s ds top writes queues root read are old.0 old.1 old.2 old.3)
+    (λ new. over-top g s ds top writes queues root read are new.0 new.1 new.2 new.3)
+    (stage-left g s e top writes queues root still stage images)

@@ -7,6 +7,8 @@ pub mod DrivesZones
 pub mod Ends
 pub mod HomeWrites
 pub mod Merges
+pub mod Readers
+pub mod ReadersImages
 pub mod RecoverCopies
 pub mod RecoverHomes
 pub mod RecoverHomesRows

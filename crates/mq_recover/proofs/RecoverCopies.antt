@@ -1,5 +1,5 @@
 -- Where the copies stand.
-use Rattle.std.proofs.Common.{◌≡◌, ◌≢◌, ◌<◌, ◌≤◌, inl, inr, ⊎_elim, ℕ, zero, suc, ◌+◌, ◌-◌, ◌%◌, List, [], ◌∷◌, length, Bool, true, false, Option, Some, None, get_or, set, drop, replicate, refl, subst, sym, ◌∙◌, ap, arith, drop-cons, add-one}
+use Rattle.std.proofs.Common.{◌≡◌, ◌≢◌, ◌<◌, ◌≤◌, inl, inr, ⊎_elim, ℕ, zero, suc, ◌+◌, ◌%◌, List, [], ◌∷◌, length, Bool, true, false, Option, Some, None, get_or, set, drop, replicate, refl, subst, sym, ◌∙◌, ap, arith, drop-cons, add-one}
 use Rattle.std.proofs.lemmas.Bool.{cases_eq, eq-eqb, ne_eqb}
 use Rattle.std.proofs.lemmas.Grind.{get_or-set_at}
 use Rattle.std.proofs.lemmas.List.{get_or-set_other, length-replicate}
@@ -176,7 +176,7 @@ pub chain-of : (g : Geometry) (i : Shown) (q number place : ℕ) (ds : List Desc
 chain-of g i q number place [] chain = tt
 chain-of g i q number place (d ∷ ds) chain = (chain.1.queue_is, chain-of g i q d.prev_number d.prev_place ds chain.2)
 
-good-more : (most homes : ℕ) (d : Descriptor) → most ≤ list_limit → IsGood most homes d → IsGood list_limit homes d
+pub good-more : (most homes : ℕ) (d : Descriptor) → most ≤ list_limit → IsGood most homes d → IsGood list_limit homes d
 good-more most homes d more good =
     let counts = good.counts in
     record {

@@ -101,25 +101,28 @@ shown-along g v i chains n base head bell entry shows = ⊎_elim
     more)
     shows.where_from
 
--- where the words are as before, the same is read
+-- where the words are as before, the chains and the greatest number are the same
+pub top-along : (g : Geometry) (v i : Shown) (chains : ℕ → List Descriptor) (top : ℕ) → IsSameLog g v i → i.base ≡ v.base → AreSameHeads g v i → IsTop g v chains top → IsTop g i chains top
+top-along g v i chains top same base head t = record {
+  whole = whole-along g v i chains same base head t.whole;
+  shown = shown-along g v i chains top (sym base) (λ q own. sym (head q own)) (λ q own. sym (same.doorbell q own)) (λ q k own. sym (same.entry q k own)) t.shown;
+  greatest = λ n shows. t.greatest n (shown-along g i v chains n base head same.doorbell same.entry shows);
+}
+
+-- and the same is read
 pub read-along : (g : Geometry) (v i : Shown) (ds : List Descriptor) (top : ℕ) → IsSameLog g v i → i.base ≡ v.base → AreSameHeads g v i → IsReadPrefix g v ds top → IsReadPrefix g i ds top
 read-along g v i ds top same base head read =
-    let whole = whole-along g v i read.chains same base head read.whole in
     let prefix = read.prefix in
     record {
       form_is = same.form ∙ read.form_is;
       chains = read.chains;
-      whole = whole;
+      whole = whole-along g v i read.chains same base head read.whole;
       prefix = record {
         row = subst (λ (b : ℕ). AreInRow b ds) (sym base) prefix.row;
         whole = prefix.whole;
         greatest = λ q d low has is. prefix.greatest q d low has (is ∙ ap (λ (b : ℕ). b + length ds + 1) base);
       };
-      top_is = record {
-        whole = whole;
-        shown = shown-along g v i read.chains top (sym base) (λ q own. sym (head q own)) (λ q own. sym (same.doorbell q own)) (λ q k own. sym (same.entry q k own)) read.top_is.shown;
-        greatest = λ n shows. read.top_is.greatest n (shown-along g i v read.chains n base head same.doorbell same.entry shows);
-      };
+      top_is = top-along g v i read.chains top same base head read.top_is;
     }
 
 -- ---- over the greatest number
@@ -141,23 +144,23 @@ rung-low g v q ds c s chain from to is =
     let low = r.2 in
     omega arith
 
-pub top-low : (g : Geometry) (v : Shown) (ds : List Descriptor) (top : ℕ) → IsReadPrefix g v ds top → top ≤ number_limit
-top-low g v ds top read = ⊎_elim
-    (λ is. let limit = read.whole.limit in omega arith)
+pub top-low : (g : Geometry) (v : Shown) (chains : ℕ → List Descriptor) (top : ℕ) → IsTop g v chains top → top ≤ number_limit
+top-low g v chains top t = ⊎_elim
+    (λ is. let limit = t.whole.limit in omega arith)
     (λ more. ⊎_elim
     (λ has.
-    let chain = read.whole.each has.0 has.2 in
-    let falling = chain-falls g v has.0 chain.number chain.place (chain.number + 1) (read.chains has.0) chain.chain (omega arith) in
-    let low = falls-under v.base (chain.number + 1) (read.chains has.0) has.1 falling has.3 in
+    let chain = t.whole.each has.0 has.2 in
+    let falling = chain-falls g v has.0 chain.number chain.place (chain.number + 1) (chains has.0) chain.chain (omega arith) in
+    let low = falls-under v.base (chain.number + 1) (chains has.0) has.1 falling has.3 in
     let limit = chain.limit in
     let number = has.4 in
     omega arith)
     (λ r.
-    let low = rung-low g v r.0 (read.chains r.0) r.1 r.2 (read.whole.each r.0 r.3) r.4 r.5 r.6 in
+    let low = rung-low g v r.0 (chains r.0) r.1 r.2 (t.whole.each r.0 r.3) r.4 r.5 r.6 in
     let number = r.7 in
     omega arith)
     more)
-    read.top_is.shown.where_from
+    t.shown.where_from
 
 -- a queue whose head is as before has an empty chain over the greatest number
 raised-still : (g : Geometry) (v i : Shown) (q : ℕ) (ds : List Descriptor) (top : ℕ) → q < g.queues → IsSameLog g v i → i.base ≡ top → i.head q ≡ v.head q → (chain : IsQueueChain g v q ds) → chain.number ≤ top → IsQueueChain g i q []
@@ -208,23 +211,23 @@ raised-moved g v i q ds chains top own same base head some t chain =
       rung_whole = λ above. absurd (omega arith);
     }
 
-raised-queue : (g : Geometry) (v i : Shown) (q : ℕ) (ds : List Descriptor) (top : ℕ) → q < g.queues → IsSameLog g v i → i.base ≡ top → AreMovedHeads g v i → IsReadPrefix g v ds top → IsQueueChain g i q []
-raised-queue g v i q ds top own same base head read =
-    let chain = read.whole.each q own in
-    let low_top = newest-low g v read.chains top q chain.number chain.place (read.chains q) own read.top_is refl chain.chain in
+raised-queue : (g : Geometry) (v i : Shown) (q : ℕ) (chains : ℕ → List Descriptor) (top : ℕ) → q < g.queues → IsSameLog g v i → i.base ≡ top → AreMovedHeads g v i → IsTop g v chains top → IsQueueChain g i q []
+raised-queue g v i q chains top own same base head t =
+    let chain = t.whole.each q own in
+    let low_top = newest-low g v chains top q chain.number chain.place (chains q) own t refl chain.chain in
     ⊎_elim
-    (λ still. raised-still g v i q (read.chains q) top own same base still chain low_top)
+    (λ still. raised-still g v i q (chains q) top own same base still chain low_top)
     (λ moved. ⊎_elim
-    (λ some. raised-moved g v i q (read.chains q) read.chains top own same base moved some read.top_is chain)
+    (λ some. raised-moved g v i q (chains q) chains top own same base moved some t chain)
     (λ none.
     let order = chain.order in
-    raised-still g v i q (read.chains q) top own same base (omega arith) chain low_top)
+    raised-still g v i q (chains q) top own same base (omega arith) chain low_top)
     (cases_lt (v.head q) (v.doorbell q)))
     (head q own)
 
 -- no image shows a greater number then
-shown-low : (g : Geometry) (v i : Shown) (ds : List Descriptor) (top n : ℕ) → IsSameLog g v i → i.base ≡ top → AreMovedHeads g v i → IsReadPrefix g v ds top → ShowsNumber g i (λ q. []) n → n ≤ top
-shown-low g v i ds top n same base head read shows = ⊎_elim
+shown-low : (g : Geometry) (v i : Shown) (chains : ℕ → List Descriptor) (top n : ℕ) → IsSameLog g v i → i.base ≡ top → AreMovedHeads g v i → IsTop g v chains top → ShowsNumber g i (λ q. []) n → n ≤ top
+shown-low g v i chains top n same base head t shows = ⊎_elim
     (λ is. omega arith)
     (λ more. ⊎_elim
     (λ has. absurd has.3)
@@ -233,32 +236,36 @@ shown-low g v i ds top n same base head read shows = ⊎_elim
     let from = r.4 in
     let to = r.5 in
     let bell = same.doorbell r.0 own in
-    let order = (read.whole.each r.0 own).order in
+    let order = (t.whole.each r.0 own).order in
     let low : v.head r.0 ≤ r.1 = ⊎_elim (λ still. omega arith) (λ moved. omega arith) (head r.0 own) in
-    read.top_is.greatest n (record { where_from = inr (inr (r.0, r.1, r.2, own, low, omega arith, sym (same.entry r.0 (r.1 % depth) own) ∙ r.6, r.7)) }))
+    t.greatest n (record { where_from = inr (inr (r.0, r.1, r.2, own, low, omega arith, sym (same.entry r.0 (r.1 % depth) own) ∙ r.6, r.7)) }))
     more)
     shows.where_from
 
--- over the greatest number nothing is left to bring home
+-- over the greatest number no chain has any
+pub top-raised : (g : Geometry) (v i : Shown) (chains : ℕ → List Descriptor) (top : ℕ) → IsSameLog g v i → i.base ≡ top → AreMovedHeads g v i → IsTop g v chains top → IsTop g i (λ q. []) top
+top-raised g v i chains top same base head t =
+    let limit = top-low g v chains top t in
+    record {
+      whole = record {
+        limit = omega arith;
+        each = λ q own. raised-queue g v i q chains top own same base head t;
+        once = λ q r p s other d e has. absurd has;
+      };
+      shown = record { where_from = inl (sym base) };
+      greatest = λ n shows. shown-low g v i chains top n same base head t shows;
+    }
+
+-- and nothing is left to bring home
 pub read-raised : (g : Geometry) (v i : Shown) (ds : List Descriptor) (top : ℕ) → IsSameLog g v i → i.base ≡ top → AreMovedHeads g v i → IsReadPrefix g v ds top → IsReadPrefix g i [] top
 read-raised g v i ds top same base head read =
-    let none : ℕ → List Descriptor = λ q. [] in
-    let limit = top-low g v ds top read in
-    let whole : AreWhole g i none = record {
-      limit = omega arith;
-      each = λ q own. raised-queue g v i q ds top own same base head read;
-      once = λ q r p s other d e has. absurd has;
-    } in
+    let t = top-raised g v i read.chains top same base head read.top_is in
     record {
       form_is = same.form ∙ read.form_is;
-      chains = none;
-      whole = whole;
+      chains = λ q. [];
+      whole = t.whole;
       prefix = record { row = tt; whole = λ d has. absurd has; greatest = λ q d low has. absurd has };
-      top_is = record {
-        whole = whole;
-        shown = record { where_from = inl (sym base) };
-        greatest = λ n shows. shown-low g v i ds top n same base head read shows;
-      };
+      top_is = t;
     }
 
 -- ---- what stands

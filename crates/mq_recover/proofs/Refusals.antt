@@ -1,5 +1,5 @@
 -- Each cause of a refusal is the only one, and none holds of what is readable.
-use Rattle.std.proofs.Common.{◌≡◌, ◌<◌, ◌≤◌, ◌⊎◌, inl, inr, ℕ, ◌+◌, ◌-◌, ◌*◌, ◌%◌, true, false, List, [], ◌∷◌, length, Option, Some, None, refl, sym, ◌∙◌, ap, subst, arith}
+use Rattle.std.proofs.Common.{◌≡◌, ◌<◌, ◌≤◌, ◌⊎◌, inl, inr, ℕ, ◌+◌, ◌-◌, ◌*◌, ◌%◌, true, false, List, [], ◌∷◌, Option, Some, None, refl, sym, ◌∙◌, ap, subst, arith}
 use Rattle.std.proofs.lemmas.Bool.{cases_eq, cases_lt}
 use Rattle.std.proofs.Math.Nat.{mod-eq_of_lt}
 use Rattle.std.specs.Option.{unwrap_or}
@@ -11,13 +11,14 @@ use Rattle.mq_blocks.specs.declared.geometry.Geometry.{Geometry}
 use Rattle.mq_nvme.specs.Entry.{refusal_of}
 use Rattle.mq_nvme.specs.Says.{says, said}
 use Rattle.mq_nvme.specs.declared.write.EntryRefusal.{EntryRefusal}
-use Rattle.mq_area.proofs.ReadingExact.{refuses-once, accepted-refused}
-use Rattle.mq_area.proofs.ReadingSound.{accepted-once}
+use Rattle.mq_area.specs.Reading.{Accepts, Refuses}
 use Rattle.mq_area.specs.declared.descriptor.PlaceIs.{PlaceIs}
 use Rattle.mq_area.specs.declared.descriptor.PlaceIs.TheVariants.{Index, Exact}
 use Rattle.mq_area.specs.declared.refusal.DescriptorRefusal.{DescriptorRefusal}
 use Rattle.mq_ledger.proofs.JournalChains.{said-once}
-use Rattle.mq_recover.specs.Refusals.{AreWords, IsNewest, RefusesNewest, IsFoundNext, AreFound, RefusesNext, IsIndex, RefusesChain, IsWholeChain, IsRung, AreRung, IsRungWhole, RefusesRequest, RefusesRung, IsReadable, RefusesQueue, entry_at, expected, block_where, before_where, NewestEntry, NewestCommit, NewestLimit, NextRefused, NextApart, ChainOutside, ChainStopped, RequestEntry, RequestLimit, RungStopped, RungCommit, QueueWords, QueueNewest, QueueChain, QueueRung}
+use Rattle.mq_recover.specs.Reader.{Accepting, IsReader, Refusing}
+use Rattle.mq_recover.specs.Refusals.{AreWords, IsNewest, RefusesNewest, IsFoundNextBy, AreFoundBy, RefusesNextBy, IsIndex, RefusesChainBy, IsWholeChainBy, IsRung, AreRung, IsRungWhole, RefusesRequest, RefusesRung, IsReadable, IsReadableBy, RefusesQueue, RefusesQueueBy, entry_at, expected, block_where, before_where, NewestEntry, NewestCommit, NewestLimit, NextRefused, NextApart, ChainOutside, ChainStopped, RequestEntry, RequestLimit, RungStopped, RungCommit, QueueWords, QueueNewest, QueueChain, QueueRung}
+use Rattle.mq_recover.proofs.Readers.{journal-reader}
 use Rattle.mq_recover.specs.declared.refusal.ChainRefusal.{ChainRefusal}
 use Rattle.mq_recover.specs.declared.refusal.ChainRefusal.TheVariants.{Words, Entry, Descriptor as AtDescriptor, Span, Limit}
 
@@ -108,106 +109,107 @@ newest-test s = record { once = newest-once s; refused = newest-refused s; apart
 
 -- ---- the chain
 
-next-once : (g : Geometry) (s : PortState) (q number : ℕ) (at : PlaceIs) (newest : Option ℕ) (d e : Descriptor) → IsFoundNext g s q number at newest d → IsFoundNext g s q number at newest e → d ≡ e
-next-once g s q number at newest d e a b = accepted-once g (expected q number at) (block_where g s at) (before_where g s at) d e a.0 b.0
+module _ (accepts : Accepting) (refuses : Refusing) (reader : IsReader accepts refuses) where
+  next-once : (g : Geometry) (s : PortState) (q number : ℕ) (at : PlaceIs) (newest : Option ℕ) (d e : Descriptor) → IsFoundNextBy accepts g s q number at newest d → IsFoundNextBy accepts g s q number at newest e → d ≡ e
+  next-once g s q number at newest d e a b = reader.once g (expected q number at) (block_where g s at) (before_where g s at) d e a.0 b.0
 
-next-refused : (g : Geometry) (s : PortState) (q number : ℕ) (at : PlaceIs) (newest : Option ℕ) (e f : ChainRefusal) → RefusesNext g s q number at newest e → RefusesNext g s q number at newest f → e ≡ f
-next-refused g s q number at newest _ _ (NextRefused c n r) (NextRefused d m t) =
-    ap (λ (x : DescriptorRefusal). AtDescriptor number x) (refuses-once g (expected q number at) (block_where g s at) (before_where g s at) c d r t n m)
-next-refused g s q number at newest _ _ (NextRefused c n r) (NextApart d a far) = absurd (n (accepted-refused g (expected q number at) (block_where g s at) (before_where g s at) d c a r))
-next-refused g s q number at newest _ _ (NextApart d a far) (NextRefused c n r) = absurd (n (accepted-refused g (expected q number at) (block_where g s at) (before_where g s at) d c a r))
-next-refused g s q number at newest _ _ (NextApart d a far) (NextApart e b long) =
-    ap (λ (x : Descriptor). Span (first_place x) (unwrap_or newest x.place)) (accepted-once g (expected q number at) (block_where g s at) (before_where g s at) d e a b)
+  next-refused : (g : Geometry) (s : PortState) (q number : ℕ) (at : PlaceIs) (newest : Option ℕ) (e f : ChainRefusal) → RefusesNextBy accepts refuses g s q number at newest e → RefusesNextBy accepts refuses g s q number at newest f → e ≡ f
+  next-refused g s q number at newest _ _ (NextRefused c n r) (NextRefused d m t) =
+      ap (λ (x : DescriptorRefusal). AtDescriptor number x) (reader.cause_once g (expected q number at) (block_where g s at) (before_where g s at) c d r t n m)
+  next-refused g s q number at newest _ _ (NextRefused c n r) (NextApart d a far) = absurd (n (reader.apart g (expected q number at) (block_where g s at) (before_where g s at) d c a r))
+  next-refused g s q number at newest _ _ (NextApart d a far) (NextRefused c n r) = absurd (n (reader.apart g (expected q number at) (block_where g s at) (before_where g s at) d c a r))
+  next-refused g s q number at newest _ _ (NextApart d a far) (NextApart e b long) =
+      ap (λ (x : Descriptor). Span (first_place x) (unwrap_or newest x.place)) (reader.once g (expected q number at) (block_where g s at) (before_where g s at) d e a b)
 
-next-apart : (g : Geometry) (s : PortState) (q number : ℕ) (at : PlaceIs) (newest : Option ℕ) (d : Descriptor) (e : ChainRefusal) → IsFoundNext g s q number at newest d → RefusesNext g s q number at newest e → ⊥
-next-apart g s q number at newest d _ a (NextRefused c n r) = n (accepted-refused g (expected q number at) (block_where g s at) (before_where g s at) d c a.0 r)
-next-apart g s q number at newest d _ a (NextApart e b far) =
-    let same = accepted-once g (expected q number at) (block_where g s at) (before_where g s at) e d b a.0 in
-    let long : (first_place d) + area_of g ≤ unwrap_or newest d.place = subst (λ (x : Descriptor). (first_place x) + area_of g ≤ unwrap_or newest x.place) same far in
-    let near = a.1 in
-    omega (arith, long, near)
+  next-apart : (g : Geometry) (s : PortState) (q number : ℕ) (at : PlaceIs) (newest : Option ℕ) (d : Descriptor) (e : ChainRefusal) → IsFoundNextBy accepts g s q number at newest d → RefusesNextBy accepts refuses g s q number at newest e → ⊥
+  next-apart g s q number at newest d _ a (NextRefused c n r) = n (reader.apart g (expected q number at) (block_where g s at) (before_where g s at) d c a.0 r)
+  next-apart g s q number at newest d _ a (NextApart e b far) =
+      let same = reader.once g (expected q number at) (block_where g s at) (before_where g s at) e d b a.0 in
+      let long : (first_place d) + area_of g ≤ unwrap_or newest d.place = subst (λ (x : Descriptor). (first_place x) + area_of g ≤ unwrap_or newest x.place) same far in
+      let near = a.1 in
+      omega (arith, long, near)
 
--- Of two walks from one descriptor on, one goes on where the other ends, or they are the same.
-data Compared (g : Geometry) (s : PortState) (q base : ℕ) (ds es : List Descriptor) (n : ℕ) (a : PlaceIs) (w : Option ℕ) (m : ℕ) (b : PlaceIs) (v : Option ℕ) : Type 0 where
-  same : ds ≡ es → n ≡ m → a ≡ b → w ≡ v → Compared g s q base ds es n a w m b v
-  longer : (d : Descriptor) → base < n → IsFoundNext g s q n a w d → Compared g s q base ds es n a w m b v
-  shorter : (d : Descriptor) → base < m → IsFoundNext g s q m b v d → Compared g s q base ds es n a w m b v
+  -- Of two walks from one descriptor on, one goes on where the other ends, or they are the same.
+  data Compared (g : Geometry) (s : PortState) (q base : ℕ) (ds es : List Descriptor) (n : ℕ) (a : PlaceIs) (w : Option ℕ) (m : ℕ) (b : PlaceIs) (v : Option ℕ) : Type 0 where
+    same : ds ≡ es → n ≡ m → a ≡ b → w ≡ v → Compared g s q base ds es n a w m b v
+    longer : (d : Descriptor) → base < n → IsFoundNextBy accepts g s q n a w d → Compared g s q base ds es n a w m b v
+    shorter : (d : Descriptor) → base < m → IsFoundNextBy accepts g s q m b v d → Compared g s q base ds es n a w m b v
 
-along : (P : ℕ → PlaceIs → Option ℕ → Type 0) (n m : ℕ) (a b : PlaceIs) (w v : Option ℕ) → n ≡ m → a ≡ b → w ≡ v → P m b v → P n a w
-along P n m a b w v p q r x = subst (λ (k : ℕ). P k a w) (sym p) (subst (λ (k : PlaceIs). P m k w) (sym q) (subst (λ (k : Option ℕ). P m b k) (sym r) x))
+  along : (P : ℕ → PlaceIs → Option ℕ → Type 0) (n m : ℕ) (a b : PlaceIs) (w v : Option ℕ) → n ≡ m → a ≡ b → w ≡ v → P m b v → P n a w
+  along P n m a b w v p q r x = subst (λ (k : ℕ). P k a w) (sym p) (subst (λ (k : PlaceIs). P m k w) (sym q) (subst (λ (k : Option ℕ). P m b k) (sym r) x))
 
-compare : (g : Geometry) (s : PortState) (q base number : ℕ) (at : PlaceIs) (newest : Option ℕ) (ds es : List Descriptor) (n : ℕ) (a : PlaceIs) (w : Option ℕ) (m : ℕ) (b : PlaceIs) (v : Option ℕ)
-    → AreFound g s q base number at newest ds n a w → AreFound g s q base number at newest es m b v → Compared g s q base ds es n a w m b v
-compare g s q base number at newest [] [] n a w m b v f h = same refl (f.0 ∙ sym h.0) (f.1 ∙ sym h.1) (f.2 ∙ sym h.2)
-compare g s q base number at newest [] (e ∷ es) n a w m b v f h =
-    let low = h.0 in
-    let is = f.0 in
-    longer e (omega arith) (along (λ k p o. IsFoundNext g s q k p o e) n number a at w newest f.0 f.1 f.2 h.1)
-compare g s q base number at newest (d ∷ ds) [] n a w m b v f h =
-    let low = f.0 in
-    let is = h.0 in
-    shorter d (omega arith) (along (λ k p o. IsFoundNext g s q k p o d) m number b at v newest h.0 h.1 h.2 f.1)
-compare g s q base number at newest (d ∷ ds) (e ∷ es) n a w m b v f h =
-    let one : e ≡ d = next-once g s q number at newest e d h.1 f.1 in
-    let P : Descriptor → Type 0 = λ x. AreFound g s q base x.prev_number (Exact x.prev_place) (Some (unwrap_or newest x.place)) es m b v in
-    elim (compare g s q base d.prev_number (Exact d.prev_place) (Some (unwrap_or newest d.place)) ds es n a w m b v f.2 (subst P one h.2)) [
-      | same p x y z ↦ same (λ i. sym one i ∷ p i) x y z
-      | longer x y z ↦ longer x y z
-      | shorter x y z ↦ shorter x y z
+  compare : (g : Geometry) (s : PortState) (q base number : ℕ) (at : PlaceIs) (newest : Option ℕ) (ds es : List Descriptor) (n : ℕ) (a : PlaceIs) (w : Option ℕ) (m : ℕ) (b : PlaceIs) (v : Option ℕ)
+      → AreFoundBy accepts g s q base number at newest ds n a w → AreFoundBy accepts g s q base number at newest es m b v → Compared g s q base ds es n a w m b v
+  compare g s q base number at newest [] [] n a w m b v f h = same refl (f.0 ∙ sym h.0) (f.1 ∙ sym h.1) (f.2 ∙ sym h.2)
+  compare g s q base number at newest [] (e ∷ es) n a w m b v f h =
+      let low = h.0 in
+      let is = f.0 in
+      longer e (omega arith) (along (λ k p o. IsFoundNextBy accepts g s q k p o e) n number a at w newest f.0 f.1 f.2 h.1)
+  compare g s q base number at newest (d ∷ ds) [] n a w m b v f h =
+      let low = f.0 in
+      let is = h.0 in
+      shorter d (omega arith) (along (λ k p o. IsFoundNextBy accepts g s q k p o d) m number b at v newest h.0 h.1 h.2 f.1)
+  compare g s q base number at newest (d ∷ ds) (e ∷ es) n a w m b v f h =
+      let one : e ≡ d = next-once g s q number at newest e d h.1 f.1 in
+      let P : Descriptor → Type 0 = λ x. AreFoundBy accepts g s q base x.prev_number (Exact x.prev_place) (Some (unwrap_or newest x.place)) es m b v in
+      elim (compare g s q base d.prev_number (Exact d.prev_place) (Some (unwrap_or newest d.place)) ds es n a w m b v f.2 (subst P one h.2)) [
+        | same p x y z ↦ same (λ i. sym one i ∷ p i) x y z
+        | longer x y z ↦ longer x y z
+        | shorter x y z ↦ shorter x y z
+      ]
+
+  index-once : (g : Geometry) (q lba i j : ℕ) → IsIndex g q lba i → IsIndex g q lba j → i ≡ j
+  index-once g q lba i j p r =
+      let x : i % g.area ≡ i = mod-eq_of_lt p.1 in
+      let y : j % g.area ≡ j = mod-eq_of_lt r.1 in
+      let same : q * g.area + i % g.area ≡ q * g.area + j % g.area = sym p.0 ∙ r.0 in
+      omega (arith, x, y, same)
+
+  whole-once : (g : Geometry) (s : PortState) (q base number lba : ℕ) (ds es : List Descriptor) → IsWholeChainBy accepts g s q base number lba ds → IsWholeChainBy accepts g s q base number lba es → ds ≡ es
+  whole-once g s q base number lba ds es a b = elim a [
+    | inl x ↦ elim b [ inl y ↦ x.1 ∙ sym y.1 | inr y ↦ absurd (omega (arith, x.0, y.0)) ]
+    | inr x ↦ elim b [
+      | inl y ↦ absurd (omega (arith, x.0, y.0))
+      | inr y ↦
+          let P : ℕ → Type 0 = λ k. AreFoundBy accepts g s q base number (Index k) None es y.3 y.4 y.5 in
+          let there = subst P (index-once g q lba y.1 x.1 y.2 x.2) y.6 in
+          elim (compare g s q base number (Index x.1) None ds es x.3 x.4 x.5 y.3 y.4 y.5 x.6 there) [
+            | same p x1 x2 x3 ↦ p
+            | longer d above f1 ↦ absurd (omega (arith, above, x.7))
+            | shorter d above f1 ↦ absurd (omega (arith, above, y.7))
+          ]
     ]
+  ]
 
-index-once : (g : Geometry) (q lba i j : ℕ) → IsIndex g q lba i → IsIndex g q lba j → i ≡ j
-index-once g q lba i j p r =
-    let x : i % g.area ≡ i = mod-eq_of_lt p.1 in
-    let y : j % g.area ≡ j = mod-eq_of_lt r.1 in
-    let same : q * g.area + i % g.area ≡ q * g.area + j % g.area = sym p.0 ∙ r.0 in
-    omega (arith, x, y, same)
+  whole-refused : (g : Geometry) (s : PortState) (q base number lba : ℕ) (e f : ChainRefusal) → RefusesChainBy accepts refuses g s q base number lba e → RefusesChainBy accepts refuses g s q base number lba f → e ≡ f
+  whole-refused g s q base number lba _ _ (ChainOutside above out) (ChainOutside up none) = refl
+  whole-refused g s q base number lba _ _ (ChainOutside above out) (ChainStopped j es m b v up at r h t) = absurd (out j at.0)
+  whole-refused g s q base number lba _ _ (ChainStopped i ds n a w up at r h t) (ChainOutside above out) = absurd (out i at.0)
+  whole-refused g s q base number lba e f (ChainStopped i ds n a w up at r h t) (ChainStopped j es m b v above there k l u) =
+      let P : ℕ → Type 0 = λ x. AreFoundBy accepts g s q base number (Index x) None es m b v in
+      let walked = subst P (index-once g q lba j i there at) k in
+      elim (compare g s q base number (Index i) None ds es n a w m b v r walked) [
+        | same p x y z ↦ next-refused g s q m b v e f (along (λ k p o. RefusesNextBy accepts refuses g s q k p o e) m n b a v w (sym x) (sym y) (sym z) t) u
+        | longer d x y ↦ absurd (next-apart g s q n a w d e y t)
+        | shorter d x y ↦ absurd (next-apart g s q m b v d f y u)
+      ]
 
-whole-once : (g : Geometry) (s : PortState) (q base number lba : ℕ) (ds es : List Descriptor) → IsWholeChain g s q base number lba ds → IsWholeChain g s q base number lba es → ds ≡ es
-whole-once g s q base number lba ds es a b = elim a [
-  | inl x ↦ elim b [ inl y ↦ x.1 ∙ sym y.1 | inr y ↦ absurd (omega (arith, x.0, y.0)) ]
-  | inr x ↦ elim b [
-    | inl y ↦ absurd (omega (arith, x.0, y.0))
-    | inr y ↦
-        let P : ℕ → Type 0 = λ k. AreFound g s q base number (Index k) None es y.3 y.4 y.5 in
-        let there = subst P (index-once g q lba y.1 x.1 y.2 x.2) y.6 in
-        elim (compare g s q base number (Index x.1) None ds es x.3 x.4 x.5 y.3 y.4 y.5 x.6 there) [
-          | same p x1 x2 x3 ↦ p
-          | longer d above f1 ↦ absurd (omega (arith, above, x.7))
-          | shorter d above f1 ↦ absurd (omega (arith, above, y.7))
+  whole-apart : (g : Geometry) (s : PortState) (q base number lba : ℕ) (ds : List Descriptor) (e : ChainRefusal) → IsWholeChainBy accepts g s q base number lba ds → RefusesChainBy accepts refuses g s q base number lba e → ⊥
+  whole-apart g s q base number lba ds _ p (ChainOutside above out) = elim p [ inl x ↦ absurd (omega (arith, x.0, above)) | inr x ↦ out x.1 x.2.0 ]
+  whole-apart g s q base number lba ds e p (ChainStopped j es m b v above there k l u) = elim p [
+    | inl x ↦ absurd (omega (arith, x.0, above))
+    | inr x ↦
+        let P : ℕ → Type 0 = λ y. AreFoundBy accepts g s q base number (Index y) None es m b v in
+        let walked = subst P (index-once g q lba j x.1 there x.2) k in
+        elim (compare g s q base number (Index x.1) None ds es x.3 x.4 x.5 m b v x.6 walked) [
+          | same p1 x1 y1 z1 ↦ let low = x.7 in absurd (omega (arith, low, l, x1))
+          | longer d x1 y1 ↦ let low = x.7 in absurd (omega (arith, low, x1))
+          | shorter d x1 y1 ↦ next-apart g s q m b v d e y1 u
         ]
   ]
-]
 
-whole-refused : (g : Geometry) (s : PortState) (q base number lba : ℕ) (e f : ChainRefusal) → RefusesChain g s q base number lba e → RefusesChain g s q base number lba f → e ≡ f
-whole-refused g s q base number lba _ _ (ChainOutside above out) (ChainOutside up none) = refl
-whole-refused g s q base number lba _ _ (ChainOutside above out) (ChainStopped j es m b v up at r h t) = absurd (out j at.0)
-whole-refused g s q base number lba _ _ (ChainStopped i ds n a w up at r h t) (ChainOutside above out) = absurd (out i at.0)
-whole-refused g s q base number lba e f (ChainStopped i ds n a w up at r h t) (ChainStopped j es m b v above there k l u) =
-    let P : ℕ → Type 0 = λ x. AreFound g s q base number (Index x) None es m b v in
-    let walked = subst P (index-once g q lba j i there at) k in
-    elim (compare g s q base number (Index i) None ds es n a w m b v r walked) [
-      | same p x y z ↦ next-refused g s q m b v e f (along (λ k p o. RefusesNext g s q k p o e) m n b a v w (sym x) (sym y) (sym z) t) u
-      | longer d x y ↦ absurd (next-apart g s q n a w d e y t)
-      | shorter d x y ↦ absurd (next-apart g s q m b v d f y u)
-    ]
-
-whole-apart : (g : Geometry) (s : PortState) (q base number lba : ℕ) (ds : List Descriptor) (e : ChainRefusal) → IsWholeChain g s q base number lba ds → RefusesChain g s q base number lba e → ⊥
-whole-apart g s q base number lba ds _ p (ChainOutside above out) = elim p [ inl x ↦ absurd (omega (arith, x.0, above)) | inr x ↦ out x.1 x.2.0 ]
-whole-apart g s q base number lba ds e p (ChainStopped j es m b v above there k l u) = elim p [
-  | inl x ↦ absurd (omega (arith, x.0, above))
-  | inr x ↦
-      let P : ℕ → Type 0 = λ y. AreFound g s q base number (Index y) None es m b v in
-      let walked = subst P (index-once g q lba j x.1 there x.2) k in
-      elim (compare g s q base number (Index x.1) None ds es x.3 x.4 x.5 m b v x.6 walked) [
-        | same p1 x1 y1 z1 ↦ let low = x.7 in absurd (omega (arith, low, l, x1))
-        | longer d x1 y1 ↦ let low = x.7 in absurd (omega (arith, low, x1))
-        | shorter d x1 y1 ↦ next-apart g s q m b v d e y1 u
-      ]
-]
-
-chain-test : (g : Geometry) (s : PortState) (q base number lba : ℕ) → IsTest (List Descriptor) ChainRefusal (IsWholeChain g s q base number lba) (RefusesChain g s q base number lba)
-chain-test g s q base number lba = record { once = whole-once g s q base number lba; refused = whole-refused g s q base number lba; apart = whole-apart g s q base number lba }
+  chain-test : (g : Geometry) (s : PortState) (q base number lba : ℕ) → IsTest (List Descriptor) ChainRefusal (IsWholeChainBy accepts g s q base number lba) (RefusesChainBy accepts refuses g s q base number lba)
+  chain-test g s q base number lba = record { once = whole-once g s q base number lba; refused = whole-refused g s q base number lba; apart = whole-apart g s q base number lba }
 
 -- ---- the entries from head to doorbell
 
@@ -245,39 +247,51 @@ rung-test s = record { once = λ a b p q. refl; refused = rung-refused s; apart 
 
 -- ---- a queue
 
-abbrev Passed : (g : Geometry) (s : PortState) (q base : ℕ) → Unit {0} × ((ℕ × ℕ) × (List Descriptor × Unit {0})) → Type 0
-Passed g s q base =
-    Both (Unit {0}) ((ℕ × ℕ) × (List Descriptor × Unit {0})) (λ _. AreWords s)
-    (λ _. Both (ℕ × ℕ) (List Descriptor × Unit {0}) (λ a. IsNewest s a.0 a.1)
-    (λ a. Both (List Descriptor) (Unit {0}) (IsWholeChain g s q base a.0 a.1) (λ _ _. AreRung s s.head s.doorbell × IsRungWhole s)))
+module _ (accepts : Accepting) (refuses : Refusing) (reader : IsReader accepts refuses) where
+  abbrev Passed : (g : Geometry) (s : PortState) (q base : ℕ) → Unit {0} × ((ℕ × ℕ) × (List Descriptor × Unit {0})) → Type 0
+  Passed g s q base =
+      Both (Unit {0}) ((ℕ × ℕ) × (List Descriptor × Unit {0})) (λ _. AreWords s)
+      (λ _. Both (ℕ × ℕ) (List Descriptor × Unit {0}) (λ a. IsNewest s a.0 a.1)
+      (λ a. Both (List Descriptor) (Unit {0}) (IsWholeChainBy accepts g s q base a.0 a.1) (λ _ _. AreRung s s.head s.doorbell × IsRungWhole s)))
 
-abbrev Failed : (g : Geometry) (s : PortState) (q base : ℕ) → ChainRefusal → Type 0
-Failed g s q base =
-    FirstOf (Unit {0}) ChainRefusal (λ _. AreWords s) (λ e. (e ≡ Words) × (AreWords s → ⊥))
-    (λ _. FirstOf (ℕ × ℕ) ChainRefusal (λ a. IsNewest s a.0 a.1) (RefusesNewest s)
-    (λ a. FirstOf (List Descriptor) ChainRefusal (IsWholeChain g s q base a.0 a.1) (RefusesChain g s q base a.0 a.1) (λ _. RefusesRung s)))
+  abbrev Failed : (g : Geometry) (s : PortState) (q base : ℕ) → ChainRefusal → Type 0
+  Failed g s q base =
+      FirstOf (Unit {0}) ChainRefusal (λ _. AreWords s) (λ e. (e ≡ Words) × (AreWords s → ⊥))
+      (λ _. FirstOf (ℕ × ℕ) ChainRefusal (λ a. IsNewest s a.0 a.1) (RefusesNewest s)
+      (λ a. FirstOf (List Descriptor) ChainRefusal (IsWholeChainBy accepts g s q base a.0 a.1) (RefusesChainBy accepts refuses g s q base a.0 a.1) (λ _. RefusesRung s)))
 
-all-test : (g : Geometry) (s : PortState) (q base : ℕ) → IsTest (Unit {0} × ((ℕ × ℕ) × (List Descriptor × Unit {0}))) ChainRefusal (Passed g s q base) (Failed g s q base)
-all-test g s q base =
-    and-then _ _ _ _ _ _ _ (words-test s) (λ _.
-    and-then _ _ _ _ _ _ _ (newest-test s) (λ a.
-    and-then _ _ _ _ _ _ _ (chain-test g s q base a.0 a.1) (λ _. rung-test s)))
+  all-test : (g : Geometry) (s : PortState) (q base : ℕ) → IsTest (Unit {0} × ((ℕ × ℕ) × (List Descriptor × Unit {0}))) ChainRefusal (Passed g s q base) (Failed g s q base)
+  all-test g s q base =
+      and-then _ _ _ _ _ _ _ (words-test s) (λ _.
+      and-then _ _ _ _ _ _ _ (newest-test s) (λ a.
+      and-then _ _ _ _ _ _ _ (chain-test accepts refuses reader g s q base a.0 a.1) (λ _. rung-test s)))
 
-passed : (g : Geometry) (s : PortState) (q base : ℕ) (ds : List Descriptor) (r : IsReadable g s q base ds) → Passed g s q base (tt, ((r.number, r.lba), (ds, tt)))
-passed g s q base ds r = (r.words, (r.newest, (r.chain, (r.rung, r.rung_whole))))
+  passed : (g : Geometry) (s : PortState) (q base : ℕ) (ds : List Descriptor) (r : IsReadableBy accepts g s q base ds) → Passed g s q base (tt, ((r.number, r.lba), (ds, tt)))
+  passed g s q base ds r = (r.words, (r.newest, (r.chain, (r.rung, r.rung_whole))))
 
-failed : (g : Geometry) (s : PortState) (q base : ℕ) (e : ChainRefusal) → RefusesQueue g s q base e → Failed g s q base e
-failed g s q base _ (QueueWords none) = inl (refl, none)
-failed g s q base e (QueueNewest w r) = inr (tt, w, inl r)
-failed g s q base e (QueueChain n l w h r) = inr (tt, w, inr ((n, l), h, inl r))
-failed g s q base e (QueueRung n l ds w h c r) = inr (tt, w, inr ((n, l), h, inr (ds, c, r)))
+  failed : (g : Geometry) (s : PortState) (q base : ℕ) (e : ChainRefusal) → RefusesQueueBy accepts refuses g s q base e → Failed g s q base e
+  failed g s q base _ (QueueWords none) = inl (refl, none)
+  failed g s q base e (QueueNewest w r) = inr (tt, w, inl r)
+  failed g s q base e (QueueChain n l w h r) = inr (tt, w, inr ((n, l), h, inl r))
+  failed g s q base e (QueueRung n l ds w h c r) = inr (tt, w, inr ((n, l), h, inr (ds, c, r)))
+
+  pub readable-once-by : (g : Geometry) (s : PortState) (q base : ℕ) (ds es : List Descriptor) → IsReadableBy accepts g s q base ds → IsReadableBy accepts g s q base es → ds ≡ es
+  readable-once-by g s q base ds es r t =
+      ap (λ (x : Unit {0} × ((ℕ × ℕ) × (List Descriptor × Unit {0}))). x.1.1.0) ((all-test g s q base).once _ _ (passed g s q base ds r) (passed g s q base es t))
+
+  pub refuses-queue-once-by : (g : Geometry) (s : PortState) (q base : ℕ) (e f : ChainRefusal) → RefusesQueueBy accepts refuses g s q base e → RefusesQueueBy accepts refuses g s q base f → e ≡ f
+  refuses-queue-once-by g s q base e f r t = (all-test g s q base).refused e f (failed g s q base e r) (failed g s q base f t)
+
+  pub readable-refused-by : (g : Geometry) (s : PortState) (q base : ℕ) (ds : List Descriptor) (e : ChainRefusal) → IsReadableBy accepts g s q base ds → RefusesQueueBy accepts refuses g s q base e → ⊥
+  readable-refused-by g s q base ds e r t = (all-test g s q base).apart _ e (passed g s q base ds r) (failed g s q base e t)
+
+-- ---- a queue of the journal
 
 pub readable-once : (g : Geometry) (s : PortState) (q base : ℕ) (ds es : List Descriptor) → IsReadable g s q base ds → IsReadable g s q base es → ds ≡ es
-readable-once g s q base ds es r t =
-    ap (λ (x : Unit {0} × ((ℕ × ℕ) × (List Descriptor × Unit {0}))). x.1.1.0) ((all-test g s q base).once _ _ (passed g s q base ds r) (passed g s q base es t))
+readable-once = readable-once-by Accepts Refuses journal-reader
 
 pub refuses-queue-once : (g : Geometry) (s : PortState) (q base : ℕ) (e f : ChainRefusal) → RefusesQueue g s q base e → RefusesQueue g s q base f → e ≡ f
-refuses-queue-once g s q base e f r t = (all-test g s q base).refused e f (failed g s q base e r) (failed g s q base f t)
+refuses-queue-once = refuses-queue-once-by Accepts Refuses journal-reader
 
 pub readable-refused : (g : Geometry) (s : PortState) (q base : ℕ) (ds : List Descriptor) (e : ChainRefusal) → IsReadable g s q base ds → RefusesQueue g s q base e → ⊥
-readable-refused g s q base ds e r t = (all-test g s q base).apart _ e (passed g s q base ds r) (failed g s q base e t)
+readable-refused = readable-refused-by Accepts Refuses journal-reader

@@ -1,6 +1,6 @@
 -- Reading a chain through a port.
 use Rattle.std.proofs.Common.{◌≡◌, ◌<◌, ◌≤◌, inl, inr, ℕ, ◌+◌, ◌-◌, Bool, true, List, [], ◌∷◌, ◌++◌, length, max, Option, Some, refl, sym, ◌∙◌, ap, subst, arith, get_or, set}
-use Rattle.std.specs.Prelude.{slice_get, IfOk, Result, Ok, Err}
+use Rattle.std.specs.Prelude.{slice_get, IfErr, IfOk, Result, Ok, Err}
 use Rattle.std.proofs.Math.Nat.{le-max_left, le-max_right, max-eq_left, max-eq_right}
 use Rattle.std.proofs.lemmas.Bool.{cases_lt}
 use Rattle.std.specs.Option.{unwrap_or}
@@ -13,7 +13,8 @@ use Rattle.mq_nvme.specs.Says.{says}
 use Rattle.mq_area.specs.declared.descriptor.PlaceIs.{PlaceIs}
 use Rattle.mq_area.specs.declared.descriptor.PlaceIs.TheVariants.{Exact}
 use Rattle.mq_ledger.proofs.JournalChains.{said-once}
-use Rattle.mq_recover.specs.Refusals.{IsFoundNext, AreFound, AreRung, IsGreatest, RefusesEntry, RefusesNewest, NewestEntry, RefusesRequest, RequestEntry, entry_at}
+use Rattle.mq_recover.specs.Reader.{Accepting}
+use Rattle.mq_recover.specs.Refusals.{IsFoundNextBy, AreFoundBy, AreRung, IsGreatest, RefusesEntry, RefusesNewest, NewestEntry, RefusesRequest, RequestEntry, entry_at}
 use Rattle.mq_recover.specs.declared.refusal.ChainRefusal.{ChainRefusal}
 
 -- ---- entries
@@ -82,26 +83,27 @@ read-more s from to greatest more whole number lba commit within a is low more_i
 
 -- ---- the chain
 
--- one more descriptor is found
-pub found-more : (g : Geometry) (s : PortState) (q base number : ℕ) (at : PlaceIs) (newest : Option ℕ) (ds : List Descriptor) (n : ℕ) (a : PlaceIs) (w : Option ℕ) (d : Descriptor)
-    → AreFound g s q base number at newest ds n a w → base < n → IsFoundNext g s q n a w d
-    → AreFound g s q base number at newest (ds ++ d ∷ []) d.prev_number (Exact d.prev_place) (Some (unwrap_or w d.place))
-found-more g s q base number at newest [] n a w d f above found =
-    let is = f.0 in (
-      omega (arith, is, above),
-      subst (λ (k : ℕ). IsFoundNext g s q k at newest d) f.0 (subst (λ (k : PlaceIs). IsFoundNext g s q n k newest d) f.1 (subst (λ (k : Option ℕ). IsFoundNext g s q n a k d) f.2 found)),
-      (refl, refl, ap (λ (k : Option ℕ). Some (unwrap_or k d.place)) f.2),
-    )
-found-more g s q base number at newest (e ∷ es) n a w d f above found =
-    (f.0, f.1, found-more g s q base e.prev_number (Exact e.prev_place) (Some (unwrap_or newest e.place)) es n a w d f.2 above found)
+module _ (accepts : Accepting) where
+  -- one more descriptor is found
+  pub found-more : (g : Geometry) (s : PortState) (q base number : ℕ) (at : PlaceIs) (newest : Option ℕ) (ds : List Descriptor) (n : ℕ) (a : PlaceIs) (w : Option ℕ) (d : Descriptor)
+      → AreFoundBy accepts g s q base number at newest ds n a w → base < n → IsFoundNextBy accepts g s q n a w d
+      → AreFoundBy accepts g s q base number at newest (ds ++ d ∷ []) d.prev_number (Exact d.prev_place) (Some (unwrap_or w d.place))
+  found-more g s q base number at newest [] n a w d f above found =
+      let is = f.0 in (
+        omega (arith, is, above),
+        subst (λ (k : ℕ). IsFoundNextBy accepts g s q k at newest d) f.0 (subst (λ (k : PlaceIs). IsFoundNextBy accepts g s q n k newest d) f.1 (subst (λ (k : Option ℕ). IsFoundNextBy accepts g s q n a k d) f.2 found)),
+        (refl, refl, ap (λ (k : Option ℕ). Some (unwrap_or k d.place)) f.2),
+      )
+  found-more g s q base number at newest (e ∷ es) n a w d f above found =
+      (f.0, f.1, found-more g s q base e.prev_number (Exact e.prev_place) (Some (unwrap_or newest e.place)) es n a w d f.2 above found)
 
-pub found-as : (g : Geometry) (s : PortState) (q base number : ℕ) (at : PlaceIs) (newest : Option ℕ) (ds more : List Descriptor) (d : Descriptor) (n m a b w v : ℕ)
-    → more ≡ ds ++ d ∷ [] → n ≡ m → a ≡ b → w ≡ v → AreFound g s q base number at newest (ds ++ d ∷ []) n (Exact a) (Some w) → AreFound g s q base number at newest more m (Exact b) (Some v)
-found-as g s q base number at newest ds more d n m a b w v more_is p q_is r f =
-    subst (λ (l : List Descriptor). AreFound g s q base number at newest l m (Exact b) (Some v)) (sym more_is)
-    (subst (λ (k : ℕ). AreFound g s q base number at newest (ds ++ d ∷ []) k (Exact b) (Some v)) p
-    (subst (λ (k : ℕ). AreFound g s q base number at newest (ds ++ d ∷ []) n (Exact k) (Some v)) q_is
-    (subst (λ (k : ℕ). AreFound g s q base number at newest (ds ++ d ∷ []) n (Exact a) (Some k)) r f)))
+  pub found-as : (g : Geometry) (s : PortState) (q base number : ℕ) (at : PlaceIs) (newest : Option ℕ) (ds more : List Descriptor) (d : Descriptor) (n m a b w v : ℕ)
+      → more ≡ ds ++ d ∷ [] → n ≡ m → a ≡ b → w ≡ v → AreFoundBy accepts g s q base number at newest (ds ++ d ∷ []) n (Exact a) (Some w) → AreFoundBy accepts g s q base number at newest more m (Exact b) (Some v)
+  found-as g s q base number at newest ds more d n m a b w v more_is p q_is r f =
+      subst (λ (l : List Descriptor). AreFoundBy accepts g s q base number at newest l m (Exact b) (Some v)) (sym more_is)
+      (subst (λ (k : ℕ). AreFoundBy accepts g s q base number at newest (ds ++ d ∷ []) k (Exact b) (Some v)) p
+      (subst (λ (k : ℕ). AreFoundBy accepts g s q base number at newest (ds ++ d ∷ []) n (Exact k) (Some v)) q_is
+      (subst (λ (k : ℕ). AreFoundBy accepts g s q base number at newest (ds ++ d ∷ []) n (Exact a) (Some k)) r f)))
 
 -- ---- results
 
@@ -109,6 +111,10 @@ found-as g s q base number at newest ds more d n m a b w v more_is p q_is r f =
 pub ok-map : {A E : Type 0} (r : Result A E) (P Q : A → Type 0) → ((x : A) → P x → Q x) → IfOk r P → IfOk r Q
 ok-map (Ok x) P Q f h = f x h
 ok-map (Err e) P Q f h = tt
+
+pub err-map : {A E : Type 0} (r : Result A E) (P Q : E → Type 0) → ((x : E) → P x → Q x) → IfErr r P → IfErr r Q
+err-map (Ok x) P Q f h = tt
+err-map (Err e) P Q f h = f e h
 
 -- ---- the one queue's port
 

@@ -97,14 +97,14 @@ own-image t = record {
   blocks = λ k within certain. refl;
 }
 
-own-images : (g : Geometry) (d : DriveState) → AreImages g d (map image_of d.queues) (image_of d.root)
+pub own-images : (g : Geometry) (d : DriveState) → AreImages g d (map image_of d.queues) (image_of d.root)
 own-images g d = record {
   each = λ q own. subst (IsImage (port_at d.queues q)) (sym (image-at d.queues q)) (own-image (port_at d.queues q));
   root_is = own-image d.root;
 }
 
 -- the stage at the end
-last-stage : (g : Geometry) (s m : DriveState) (ds : List Descriptor) (top : ℕ) → IsQuiescentDrive g s → (written : HasWritten g s ds top m) → IsStage g s m written.writes top
+pub last-stage : (g : Geometry) (s m : DriveState) (ds : List Descriptor) (top : ℕ) → IsQuiescentDrive g s → (written : HasWritten g s ds top m) → IsStage g s m written.writes top
 last-stage g s m ds top still written =
     let all : Writes = written.writes in
     let events : List Event = recovery_events s all top in

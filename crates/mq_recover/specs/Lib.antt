@@ -6,6 +6,7 @@ pub mod Events
 pub mod Images
 pub mod Merges
 pub mod Queues
+pub mod Reader
 pub mod Recover
 pub mod RecoverCauses
 pub mod RecoverHomes

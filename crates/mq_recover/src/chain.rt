@@ -11,11 +11,12 @@ ghost use Rattle.mq_area.specs.Reading.{further_of, header_of};
 ghost use Rattle.mq_nvme.specs.Says.{says};
 ghost use Rattle.mq_drive.specs.Start.{IsPortOf};
 ghost use Rattle.mq_recover.specs.Recover.{IsSeenAt, IsQueuePort, where_of};
-ghost use Rattle.mq_recover.specs.Refusals.{AreWords, AreRung, IsRungWhole, IsGreatest, IsNewest, IsIndex, IsWholeChain, IsFoundNext, IsReadable};
-ghost use Rattle.mq_recover.specs.Refusals.{RefusesEntry, RefusesNewest, RefusesNext, RefusesChain, RefusesRung, RefusesQueue, before_where, entry_at};
+ghost use Rattle.mq_recover.specs.Refusals.{AreWords, AreRung, IsRungWhole, IsGreatest, IsNewest, IsIndex, IsWholeChainBy, IsFoundNextBy, IsReadable, IsReadableBy};
+ghost use Rattle.mq_recover.specs.Refusals.{RefusesEntry, RefusesNewest, RefusesNextBy, RefusesChainBy, RefusesRung, RefusesQueue, RefusesQueueBy, before_where, entry_at};
 
+use crate::descriptors::{Descriptors, JournalDescriptors};
 use crate::refusal::ChainRefusal;
-use mq_area::{Descriptor, DescriptorRefusal, Expect, PlaceIs, has_further, read_descriptor};
+use mq_area::{Descriptor, DescriptorRefusal, Expect, PlaceIs, has_further};
 use mq_blocks::{Block, Geometry, QueueNo, RING_DEPTH, TxNo, USABLE_DEPTH, further_blocks};
 use mq_drive::{Port, Role};
 use mq_nvme::{WriteReq, read_write};
@@ -104,12 +105,12 @@ fn read_own<P: Port>(
     ensures refused { IfErr result (λ e. (e ≡ ChainRefusal.OutOfMemory)
         ⊎ RefusesQueue geometry (P.state port.now) queue base e) }
 {
-    let read = read_queue(alloc, geometry, queue, port, base)?;
+    let read = read_queue::<P, JournalDescriptors>(alloc, geometry, queue, port, base)?;
     Ok(read.chain)
 }
 
 // What a queue shows, where it is readable.
-pub fn read_queue<P: Port>(
+pub fn read_queue<P: Port, D: Descriptors>(
     alloc: Global,
     geometry: Geometry,
     queue: QueueNo,
@@ -119,15 +120,16 @@ pub fn read_queue<P: Port>(
     requires queue { queue < queues_of geometry }
     requires port { IsPortOf geometry (Role.Queue queue) (P.state port.now) }
     requires quiet { IsQuiescent (P.state port.now) }
-    ensures ok { IfOk result (λ r. IsReadable geometry (P.state port.now) queue base r.chain) }
+    ensures ok { IfOk result (λ r. IsReadableBy D.accepts geometry
+        (P.state port.now) queue base r.chain) }
     ensures greatest { IfOk result (λ r. IsGreatest (P.state port.now) (P.state port.now).head
         (P.state port.now).doorbell r.greatest) }
     ensures refused { IfErr result (λ e. (e ≡ ChainRefusal.OutOfMemory)
-        ⊎ RefusesQueue geometry (P.state port.now) queue base e) }
+        ⊎ RefusesQueueBy D.accepts D.refuses geometry (P.state port.now) queue base e) }
 {
     check_words(port)?;
     let newest = read_newest(port)?;
-    let chain = follow(alloc, geometry, queue, port, base, newest)?;
+    let chain = follow::<P, D>(alloc, geometry, queue, port, base, newest)?;
     let greatest = read_rung(port)?;
     Ok(QueueRead { chain, greatest })
 }
@@ -214,7 +216,7 @@ fn read_request<P: Port>(port: &P, at: u64) -> Result<WriteReq, ChainRefusal>
 }
 
 // Follows the chain that the entry before the head leads to.
-fn follow<P: Port>(
+fn follow<P: Port, D: Descriptors>(
     alloc: Global,
     geometry: Geometry,
     queue: QueueNo,
@@ -225,9 +227,11 @@ fn follow<P: Port>(
     requires queue { queue < queues_of geometry }
     requires port { IsPortOf geometry (Role.Queue queue) (P.state port.now) }
     requires quiet { IsQuiescent (P.state port.now) }
-    ensures ok { IfOk result (IsWholeChain geometry (P.state port.now) queue base newest.number newest.lba) }
+    ensures ok { IfOk result (IsWholeChainBy D.accepts geometry
+        (P.state port.now) queue base newest.number newest.lba) }
     ensures refused { IfErr result (λ e. (e ≡ ChainRefusal.OutOfMemory)
-        ⊎ RefusesChain geometry (P.state port.now) queue base newest.number newest.lba e) }
+        ⊎ RefusesChainBy D.accepts D.refuses geometry
+        (P.state port.now) queue base newest.number newest.lba e) }
 {
     if newest.number <= base.0 {
         return Ok(Chain {
@@ -235,7 +239,7 @@ fn follow<P: Port>(
         });
     }
     match area_index(geometry, queue, newest.lba) {
-        Some(index) => follow_from(alloc, geometry, queue, port, base, newest, index),
+        Some(index) => follow_from::<P, D>(alloc, geometry, queue, port, base, newest, index),
         None => Err(ChainRefusal::AreaPlace { lba: newest.lba }),
     }
 }
@@ -259,7 +263,7 @@ fn area_index(geometry: Geometry, queue: QueueNo, lba: u64) -> Option<u32>
 }
 
 // Follows a chain from its newest descriptor on, which is above the base.
-fn follow_from<P: Port>(
+fn follow_from<P: Port, D: Descriptors>(
     alloc: Global,
     geometry: Geometry,
     queue: QueueNo,
@@ -273,10 +277,13 @@ fn follow_from<P: Port>(
     requires quiet { IsQuiescent (P.state port.now) }
     requires above { base < start.number }
     requires index { IsIndex geometry queue start.lba index }
-    ensures ok { IfOk result (IsWholeChain geometry (P.state port.now) queue base start.number start.lba) }
+    ensures ok { IfOk result (IsWholeChainBy D.accepts geometry
+        (P.state port.now) queue base start.number start.lba) }
     ensures refused { IfErr result (λ e. (e ≡ ChainRefusal.OutOfMemory)
-        ⊎ RefusesChain geometry (P.state port.now) queue base start.number start.lba e) }
+        ⊎ RefusesChainBy D.accepts D.refuses geometry
+        (P.state port.now) queue base start.number start.lba e) }
 {
+    D::obeys();
     let mut block = Block::zeroed(alloc)?;
     let mut before = Block::zeroed(alloc)?;
     let mut transactions = Vec::new(alloc);
@@ -289,7 +296,7 @@ fn follow_from<P: Port>(
             number: TxNo(number),
             place,
         };
-        let next = read_next(alloc, geometry, port, &at, newest, &mut block, &mut before)?;
+        let next = read_next::<P, D>(alloc, geometry, port, &at, newest, &mut block, &mut before)?;
         newest = Some(newest.unwrap_or(next.place));
         number = next.prev_number;
         place = PlaceIs::Exact(next.prev_place);
@@ -299,7 +306,7 @@ fn follow_from<P: Port>(
 }
 
 // The descriptor that is expected, whose copies are in reach of the newest place.
-fn read_next<P: Port>(
+fn read_next<P: Port, D: Descriptors>(
     alloc: Global,
     geometry: Geometry,
     port: &P,
@@ -311,15 +318,17 @@ fn read_next<P: Port>(
     requires queue { at.now.queue < queues_of geometry }
     requires port { IsPortOf geometry (Role.Queue at.now.queue) (P.state port.now) }
     requires quiet { IsQuiescent (P.state port.now) }
-    ensures ok { IfOk result (IsFoundNext geometry
+    ensures ok { IfOk result (IsFoundNextBy D.accepts geometry
         (P.state port.now) at.now.queue at.now.number at.now.place newest) }
     ensures refused { IfErr result (λ e. (e ≡ ChainRefusal.OutOfMemory)
-        ⊎ RefusesNext geometry (P.state port.now) at.now.queue at.now.number at.now.place newest e) }
+        ⊎ RefusesNextBy D.accepts D.refuses geometry
+        (P.state port.now) at.now.queue at.now.number at.now.place newest e) }
 {
+    D::obeys();
     let area = u64::from(geometry.area());
     read_area(geometry, at.queue, place_of(at), port, block);
     read_before(geometry, at, port, block, before);
-    let next = match read_descriptor(alloc, geometry, at, block, before) {
+    let next = match D::read(alloc, geometry, at, block, before) {
         Ok(descriptor) => descriptor,
         Err(cause) => return Err(refused_at(at.number.0, cause)),
     };

@@ -38,7 +38,7 @@ pub fn read_copies<P: Port>(
     Ok(writes)
 }
 
-// Reads the copy that stands there.
+/// Reads the block of a journal area that stands there.
 pub fn read_copy_place<P: Port>(
     geometry: Geometry,
     ports: &Ports<P>,

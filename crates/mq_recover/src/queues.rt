@@ -2,10 +2,11 @@
 ghost use Rattle.std.specs.Prelude.{◌≡◌, ◌≢◌, ◌⊎◌, IfOk, IfErr, IsErrOf, max};
 ghost use Rattle.mq_blocks.specs.Geometry.{homes_of};
 ghost use Rattle.mq_recover.specs.Drives.{IsQuiescentDrive, drive_of};
-ghost use Rattle.mq_recover.specs.Queues.{AreChains, AreChainsRead, AreRead, RefusesReading, newest_number};
-ghost use Rattle.mq_recover.specs.Refusals.{RefusesSome};
+ghost use Rattle.mq_recover.specs.Queues.{AreChains, AreChainsRead, AreChainsReadBy, AreReadBy, RefusesReading, RefusesReadingBy, newest_number};
+ghost use Rattle.mq_recover.specs.Refusals.{RefusesSomeBy};
 
 use crate::chain::{Chain, LIMIT, read_queue};
+use crate::descriptors::{Descriptors, JournalDescriptors};
 use crate::refusal::{ChainRefusal, ImageFault};
 use mq_blocks::{Geometry, QueueNo, TxNo};
 use mq_drive::{Port, Ports};
@@ -36,15 +37,35 @@ pub fn read_chains<P: Port>(
         → RefusesReading geometry (drive_of P.state ports.now) e
         → IsErrOf result e ⊎ IsErrOf result ImageFault.OutOfMemory }
 {
+    read_chains_by::<P, JournalDescriptors>(alloc, geometry, ports)
+}
+
+/// Reads the chains of all queues of a drive whose descriptors are of this kind, in rising order of queues.
+pub fn read_chains_by<P: Port, D: Descriptors>(
+    alloc: Global,
+    geometry: Geometry,
+    ports: &Ports<P>,
+) -> Result<QueuesRead, ImageFault>
+    requires { IsQuiescentDrive geometry (drive_of P.state ports.now) }
+    ensures ok { IfOk result (AreChainsReadBy D.accepts geometry (drive_of P.state ports.now)) }
+    ensures chains { IfOk result (λ r. AreChains (homes_of geometry)
+        (P.state ports.now.root).base r.chains.items) }
+    ensures refused { IfErr result (λ e. (e ≡ ImageFault.OutOfMemory)
+        ⊎ RefusesReadingBy D.accepts D.refuses geometry (drive_of P.state ports.now) e) }
+    ensures exact { (e : ImageFault)
+        → RefusesReadingBy D.accepts D.refuses geometry (drive_of P.state ports.now) e
+        → IsErrOf result e ⊎ IsErrOf result ImageFault.OutOfMemory }
+{
     let base = ports.root.base();
     if base > LIMIT {
         return Err(ImageFault::Limit { base });
     }
-    read_queues(alloc, geometry, ports, TxNo(base))
+    D::obeys();
+    read_queues::<P, D>(alloc, geometry, ports, TxNo(base))
 }
 
 // What all queues show over this base, in rising order of queues.
-fn read_queues<P: Port>(
+fn read_queues<P: Port, D: Descriptors>(
     alloc: Global,
     geometry: Geometry,
     ports: &Ports<P>,
@@ -52,15 +73,16 @@ fn read_queues<P: Port>(
 ) -> Result<QueuesRead, ImageFault>
     requires still { IsQuiescentDrive geometry (drive_of P.state ports.now) }
     requires base { base ≡ (P.state ports.now.root).base }
-    ensures ok { IfOk result (AreRead geometry (drive_of P.state ports.now)) }
+    ensures ok { IfOk result (AreReadBy D.accepts geometry (drive_of P.state ports.now)) }
     ensures refused { IfErr result (λ e. (e ≡ ImageFault.OutOfMemory)
-        ⊎ RefusesSome geometry (drive_of P.state ports.now) e) }
+        ⊎ RefusesSomeBy D.accepts D.refuses geometry (drive_of P.state ports.now) e) }
 {
+    D::obeys();
     let mut chains = Vec::new(alloc);
     let mut top = base.0;
     for (q, port) in ports.queues.iter().enumerate() {
         let queue = QueueNo(q as u32);
-        let read = match read_queue(alloc, geometry, queue, port, base) {
+        let read = match read_queue::<P, D>(alloc, geometry, queue, port, base) {
             Ok(read) => read,
             Err(cause) => return Err(bad_queue(queue, cause)),
         };

@@ -1,6 +1,6 @@
 use Rattle.std.proofs.Common.{inl, inr, sym, subst}
 use Rattle.std.proofs.lemmas.Result.{err_from_is_err_and}
-use Rattle.mq_recover.specs.Refusals.{RefusesQueue, QueueWords, QueueNewest, QueueChain, QueueRung}
+use Rattle.mq_recover.specs.Refusals.{RefusesQueueBy, QueueWords, QueueNewest, QueueChain, QueueRung}
 use Rattle.mq_recover.specs.declared.refusal.ChainRefusal.{ChainRefusal}
 use Rattle.mq_recover.proofs.chain.read_queue.Goals as goal
 
@@ -9,7 +9,7 @@ returns-in_err-check_words-clause-refused g c =
     let s = g.P.Port.state c.args.port.now in
     let p = err_from_is_err_and c.from_residual.result c.from_residual.ensures.1 in
     let r = c.in_err-check_words.ensures.refused in
-    rw (p.1, p.2) (inr (subst (λ (e : ChainRefusal). RefusesQueue c.args.geometry s c.args.queue c.args.base e) (sym r.0) (QueueWords r.1)))
+    rw (p.1, p.2) (inr (subst (λ (e : ChainRefusal). RefusesQueueBy g.D.Descriptors.accepts g.D.Descriptors.refuses c.args.geometry s c.args.queue c.args.base e) (sym r.0) (QueueWords r.1)))
 
 pub returns-in_err-newest-clause-refused : goal.returns-in_err-newest-clause-refused
 returns-in_err-newest-clause-refused g c =

@@ -6,7 +6,7 @@ use Rattle.mq_recover.proofs.queues.read_queues.Given as goal
 -- the queues so far are read
 abbrev pub invariant-loop-q : goal.invariant-loop-q
 invariant-loop-q g l = record {
-  read : AreReadTo l.fn.geometry (states g.P.Port.state l.ports.queues.items l.ports.root) l.q l.chains.items l.top;
+  read : AreReadTo g.D.Descriptors.accepts l.fn.geometry (states g.P.Port.state l.ports.queues.items l.ports.root) l.q l.chains.items l.top;
   fits : l.top < 2 ^ 64;
   base_is : l.base ≡ l.fn.base;
 }
