@@ -10,4 +10,4 @@ pub use laws::{
     what_stands_is_found_upward,
 };
 pub use numbers::Numbers;
-pub use write::write_loose_descriptor;
+pub use write::{LOOSE_MAGIC, write_loose_descriptor};

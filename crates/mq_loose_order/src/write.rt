@@ -9,7 +9,7 @@ use mq_blocks::bytes::{put, put_list};
 use mq_blocks::{Block, TxNo};
 
 /// The first eight bytes of a descriptor of the loose order, "MQFSLSE1", as a number.
-const LOOSE_MAGIC: u64 = 0x3145_534c_5346_514d;
+pub const LOOSE_MAGIC: u64 = 0x3145_534c_5346_514d;
 
 /// The bytes before the two lists.
 const HEADER: usize = 56;

@@ -1,0 +1,11 @@
+pub mod Choosing
+pub mod ImagesFound
+pub mod ImagesRefused
+pub mod ImagesWhole
+pub mod Numbers
+pub mod ReadingExact
+pub mod ReadingOnce
+pub mod ReadingSound
+pub mod Recoveries
+pub mod Searching
+pub mod Tests

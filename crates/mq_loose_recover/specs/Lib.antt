@@ -1,0 +1,5 @@
+pub mod Checks
+pub mod Choices
+pub mod Images
+pub mod Reading
+pub mod Standing
