@@ -27,11 +27,11 @@ use Rattle.mq_turns.specs.declared.rule.Report.TheVariants as report
 use Rattle.mq_calls.specs.Acts.{Acts, Call, Commits, HasActed, IsAreaFull, IsTooLarge, IsTurnedDown, KeepsAll, ReadsGroup, Rests, before, cut, memory, too_large}
 use Rattle.mq_calls.specs.Calling.{HasLeft, IsReadOf}
 use Rattle.mq_calls.specs.Committing.{IsMissed}
-use Rattle.mq_calls.specs.Pages.{HoldsPages, IsSeen}
+use Rattle.mq_sessions.specs.Pages.{HoldsPages, IsSeen}
 use Rattle.mq_calls.specs.Runs.{IsDoneOnCells, file_values, files, geometry_at}
 use Rattle.mq_calls.specs.Sessions.{HasCalled, IsReady}
 use Rattle.mq_calls.specs.Synchronizing.{IsDurable, IsNotDurable, WasDrainRefused, after}
-use Rattle.mq_calls.specs.Wanted.{IsSameSession}
+use Rattle.mq_sessions.specs.Wanted.{IsSameSession}
 use Rattle.mq_calls.specs.declared.answers.CallCause.{CallCause}
 use Rattle.mq_calls.specs.declared.committing.Miss.{Miss}
 use Rattle.mq_calls.specs.declared.committing.Miss.TheVariants as miss

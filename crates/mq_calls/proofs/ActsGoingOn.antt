@@ -15,7 +15,7 @@ use Rattle.mq_calls.specs.Acts.{Call, GoesOn}
 use Rattle.mq_calls.specs.Calling.{IsReadOf}
 use Rattle.mq_calls.specs.Committing.{OnlyReports, ReadsWords}
 use Rattle.mq_calls.specs.Drawing.{HasDrawn}
-use Rattle.mq_calls.specs.Wanted.{IsSameSession}
+use Rattle.mq_sessions.specs.Wanted.{IsSameSession}
 use Rattle.mq_calls.proofs.Acts.{OnlyHolds}
 
 module _ {P : Type 0} {G : Ghosts P} where

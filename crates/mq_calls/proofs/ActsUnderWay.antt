@@ -23,7 +23,7 @@ use Rattle.mq_turns.specs.Meaning.{HasNumberAt}
 use Rattle.mq_calls.specs.Acts.{Call, IsUnderWay, WaitsForNone}
 use Rattle.mq_calls.specs.Calling.{IsReadOf}
 use Rattle.mq_calls.specs.Runs.{file_values, files}
-use Rattle.mq_calls.specs.Wanted.{IsSameSession}
+use Rattle.mq_sessions.specs.Wanted.{IsSameSession}
 
 module _ {P : Type 0} {G : Ghosts P} where
   -- it stays so while the session reads no words

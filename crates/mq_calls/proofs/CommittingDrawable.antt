@@ -56,7 +56,7 @@ use Rattle.mq_turns.proofs.Lists.{each_without}
 use Rattle.mq_turns.proofs.DeskSeen.{opening_seen}
 use Rattle.mq_calls.specs.Acts.{Call, IsCaused, LacksArea, MeetsRefusal, planned_at}
 use Rattle.mq_calls.specs.Committing.{HasRead, HoldsCommit, IsObstacle, IsPlacedOn, IsPrepared, HasNoRoom}
-use Rattle.mq_calls.specs.Pages.{HoldsPage, HoldsPages}
+use Rattle.mq_sessions.specs.Pages.{HoldsPage, HoldsPages}
 use Rattle.mq_calls.specs.Preparing.{IsEntryReady}
 use Rattle.mq_calls.specs.Runs.{IsDoneOnCells, IsDoneOnHeld, file_values, files, geometry_at}
 use Rattle.mq_calls.specs.Sessions.{HasCalled}
@@ -64,11 +64,11 @@ use Rattle.mq_calls.specs.declared.committing.Obstacle.{Obstacle}
 use Rattle.mq_calls.specs.declared.committing.Obstacle.TheVariants as obstacle
 use Rattle.mq_calls.specs.declared.committing.Ready.{Ready}
 use Rattle.mq_calls.proofs.Acts.{known-before}
-use Rattle.mq_calls.proofs.CommittingInHand.{side-apart}
 use Rattle.mq_calls.proofs.CommittingOwn.{drew-above}
 use Rattle.mq_calls.proofs.RunsFinding.{done-now}
-use Rattle.mq_calls.proofs.PagesHolding.{cells-now, pages-kept-all}
-use Rattle.mq_calls.proofs.PagesLists.{each-cell}
+use Rattle.mq_sessions.proofs.PagesHolding.{cells-now, pages-kept-all}
+use Rattle.mq_sessions.proofs.PagesLists.{each-cell}
+use Rattle.mq_sessions.proofs.PagesBeside.{side-apart}
 
 -- the planned writes are of the same blocks
 planned-block : (block : ℕ) (of_file : Bool) (o : Option PageCell) → (planned_by_cell block of_file o).block ≡ block

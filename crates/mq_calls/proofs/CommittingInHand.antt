@@ -1,7 +1,5 @@
 -- A session that holds the pages of a group and the side of its queue.
-use Rattle.std.proofs.Common.{◌≡◌, ◌≢◌, ℕ, ◌+◌, ◌<◌, ◌≤◌, List, [], ◌∷◌, length, sym, ap, subst, ◌∙◌, arith}
-use Rattle.std.specs.List.{All}
-use Rattle.std.proofs.lemmas.List.Elements.{All-cons, All-nil}
+use Rattle.std.proofs.Common.{◌≡◌, ℕ, ◌+◌, ◌<◌, ◌≤◌, List, ◌∷◌, length, sym, ap, subst, ◌∙◌, arith}
 use Rattle.mq_blocks.specs.Drive.{PortState}
 use Rattle.mq_drive.specs.Steps.{PortFault}
 use Rattle.mq_drive.specs.declared.port.Port.{Ghosts}
@@ -17,53 +15,21 @@ use Rattle.mq_queue_side.specs.declared.root.Root.{Root}
 use Rattle.mq_queue_side.specs.declared.side.QueueSide.{QueueSide}
 use Rattle.mq_turns.specs.Chairs.{holding}
 use Rattle.mq_turns.specs.Desk.{Sees, slot_of}
-use Rattle.mq_turns.specs.Lists.{Each, tick, times}
+use Rattle.mq_turns.specs.Lists.{tick, times}
 use Rattle.mq_turns.specs.Meaning.{Meaning}
 use Rattle.mq_turns.specs.Swept.{AfterFront}
 use Rattle.mq_turns.specs.Words.{after_base}
 use Rattle.mq_turns.specs.declared.rule.MarkAnswer.TheVariants.{Base, Front}
 use Rattle.mq_turns.specs.declared.rule.ChairView.{ChairView}
 use Rattle.mq_turns.specs.declared.rule.Known.{Known}
-use Rattle.mq_turns.specs.declared.rule.Opening.{Opening}
 use Rattle.mq_turns.specs.declared.turn.Turn.TheVariants.{Side}
-use Rattle.mq_turns.proofs.Lists.{each_map}
 use Rattle.mq_calls.specs.Committing.{HasRead, HoldsCommit, ReadsWords}
-use Rattle.mq_calls.specs.Pages.{HoldsOnlyPages, HoldsPage, HoldsPages, IsSeen, blocks_of}
+use Rattle.mq_sessions.specs.Pages.{HoldsOnlyPages, HoldsPages, IsSeen}
 use Rattle.mq_calls.specs.Runs.{files}
-use Rattle.mq_calls.proofs.WantedFurther.{cells-below, held-low}
-use Rattle.mq_calls.proofs.PagesHolding.{pages-beside-all, sees-taken}
+use Rattle.mq_sessions.proofs.PagesHolding.{pages-beside-all, sees-taken}
+use Rattle.mq_sessions.proofs.PagesBeside.{pages-same, side-apart}
 
 module _ {Q R E : Type 0} (μ : Meaning PageCell Q R E) where
-  -- the pages stay held where nothing that is held changes
-  page-same : (o : Opening PageCell Q R) (v w : ChairView PageCell Q R E) (b : ℕ) (c : PageCell) → w.held ≡ v.held → HoldsPage μ o v b c → HoldsPage μ o w b c
-  page-same o v w b c same h = record {
-    turn = h.turn;
-    holds = subst (λ l. 0 < times b l) (sym same) h.holds;
-    is = subst (Each (λ h. h.0 ≡ b → μ.page b h.1 c)) (sym same) h.is;
-  }
-
-  pub pages-same : (o : Opening PageCell Q R) (cells : Cells) (v w : ChairView PageCell Q R E) → w.held ≡ v.held → HoldsPages μ o cells v → HoldsPages μ o cells w
-  pages-same o cells v w same h = record {
-    rising = h.rising;
-    each = each_map (λ x. HoldsPage μ o v x.0 x.1) (λ x. HoldsPage μ o w x.0 x.1) (λ x p. page-same o v w x.0 x.1 same p) cells h.each;
-  }
-
-  -- no page has the slot of a side
-  other-slots : (o : Opening PageCell Q R) (q : ℕ) (cells : Cells) → Each (λ c. c.0 < length o.pages) cells → All (λ b. b ≢ slot_of o (Side q)) (blocks_of cells)
-  other-slots o q [] low = All-nil (λ b. b ≢ slot_of o (Side q))
-  other-slots o q (x ∷ xs) low = All-cons (λ b. b ≢ slot_of o (Side q)) x.0 (blocks_of xs) (λ e. let l = low.0 in omega arith) (other-slots o q xs low.1)
-
-  pub side-apart : (o : Opening PageCell Q R) (q : ℕ) (cells : Cells) (v : ChairView PageCell Q R E) → HoldsPages μ o cells v → All (λ b. b ≢ slot_of o (Side q)) (blocks_of cells)
-  side-apart o q cells v h = other-slots o q cells (cells-below μ o cells v h)
-
-  -- and the turn of a side is above them
-  below-side : (o : Opening PageCell Q R) (q : ℕ) (cells : Cells) → Each (λ c. c.0 < length o.pages) cells → All (λ b. b < slot_of o (Side q)) (blocks_of cells)
-  below-side o q [] low = All-nil (λ b. b < slot_of o (Side q))
-  below-side o q (x ∷ xs) low = All-cons (λ b. b < slot_of o (Side q)) x.0 (blocks_of xs) (let l = low.0 in omega arith) (below-side o q xs low.1)
-
-  pub side-above : (o : Opening PageCell Q R) (q : ℕ) (cells : Cells) (v : ChairView PageCell Q R E) → HoldsOnlyPages μ o cells v → IsSeen μ v → Each (λ h. h.0 < slot_of o (Side q)) v.held
-  side-above o q cells v h seen = held-low μ o (blocks_of cells) cells v (slot_of o (Side q)) (record { pages = h; blocks = λ b. (λ c. c, λ c. c); seen = seen }) (below-side o q cells (cells-below μ o cells v h.pages))
-
   -- ---- a front and a base were read
 
   pub sees-base : (b : ℕ) (K : Known PageCell Q R E) (v : ChairView PageCell Q R E) → K.word ≡ b → Sees μ v K → Sees μ (after_base b v) K

@@ -32,14 +32,14 @@ use Rattle.mq_turns.proofs.DeskTurns.{times_refreshed}
 use Rattle.mq_calls.specs.Acts.{IsUnderWay, WasCutAt}
 use Rattle.mq_calls.specs.Committing.{HoldsCommit, OnlyReports}
 use Rattle.mq_calls.specs.Drawing.{HasDrawn}
-use Rattle.mq_calls.specs.Pages.{HoldsOnlyPages, HoldsPages, blocks_of, giving_pages}
+use Rattle.mq_sessions.specs.Pages.{HoldsOnlyPages, HoldsPages, blocks_of, giving_pages}
 use Rattle.mq_calls.specs.Runs.{file_values, files}
-use Rattle.mq_calls.proofs.LeavingAfterDraw.{nothing-left}
-use Rattle.mq_calls.proofs.WantedFurther.{cells-below}
-use Rattle.mq_calls.proofs.PagesHolding.{pages-kept-all, pages-renewed}
+use Rattle.mq_sessions.proofs.WantedFurther.{cells-below}
+use Rattle.mq_sessions.proofs.PagesHolding.{pages-kept-all, pages-renewed}
 use Rattle.mq_calls.proofs.ActsUnderWay.{under-after}
-use Rattle.mq_calls.proofs.CommittingInHand.{side-apart}
-use Rattle.mq_calls.proofs.PagesLists.{none-held}
+use Rattle.mq_sessions.proofs.PagesLists.{none-held}
+use Rattle.mq_sessions.proofs.DrawnPages.{nothing-left}
+use Rattle.mq_sessions.proofs.PagesBeside.{side-apart}
 
 none-there : (k : ℕ) (cells : Cells) → Each (λ x. x.0 ≢ k) cells → times k cells ≡ 0
 none-there k [] apart = refl

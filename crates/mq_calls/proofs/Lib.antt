@@ -1,10 +1,4 @@
-pub mod PagesLists
-pub mod PagesHolding
-pub mod PagesTaking
-pub mod PagesCounting
-pub mod WantedFurther
 pub mod RunsFinding
-pub mod WantedMissing
 pub mod RequestsUnchanged
 pub mod PagesNotDrawn
 pub mod Sessions

@@ -41,10 +41,11 @@ use Rattle.mq_tree.specs.Laid.{map_of}
 use Rattle.mq_tree.proofs.LaidMaps.{mapped}
 use Rattle.mq_turns.specs.Desk.{fresh}
 use Rattle.mq_calls.specs.Helpers.{IsNewHelper}
-use Rattle.mq_calls.specs.Opening.{IsEquipped, IsNewSession, IsNewSide, IsOpenedOver, IsUncalled, MayOpen, first_cells, stored_map}
+use Rattle.mq_calls.specs.Opening.{IsEquipped, IsNewSession, IsOpenedOver, IsUncalled, MayOpen, first_cells, stored_map}
 use Rattle.mq_calls.specs.Runs.{file_values, geometry_at}
 use Rattle.mq_calls.specs.Sessions.{HasCalled}
 use Rattle.mq_calls.proofs.OpeningState.{count-is, first-contents, first-numbers, map-after, map-at, state-is}
+use Rattle.mq_sessions.specs.Sides.{IsNewSide}
 
 -- ---- the record of a new side
 

@@ -22,7 +22,8 @@ use Rattle.mq_desk_laws.specs.Values.{Values}
 use Rattle.mq_desk_laws.proofs.Opening.{at_map}
 use Rattle.mq_tree.specs.Laid.{is_marked, map_of}
 use Rattle.mq_turns.specs.declared.rule.Opening.{Opening}
-use Rattle.mq_calls.specs.Opening.{IsIdle, first_cell, first_cells, stored_map}
+use Rattle.mq_calls.specs.Opening.{first_cell, first_cells, stored_map}
+use Rattle.mq_sessions.specs.Sides.{IsIdle}
 
 -- ---- lists
 

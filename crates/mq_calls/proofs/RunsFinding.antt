@@ -1,10 +1,8 @@
 -- What a group comes to on held pages, it comes to on the map of whatever is known by now.
-use Rattle.std.proofs.Common.{◌≡◌, ℕ, List, sym, ap, subst, ◌∙◌, inl, inr}
+use Rattle.std.proofs.Common.{◌≡◌, ℕ, List, sym, ap, subst, ◌∙◌}
 use Rattle.std.specs.Prelude.{Option, Some}
-use Rattle.std.proofs.lemmas.Option.{none-some, same_Some}
 use Rattle.mq_blocks.specs.Drive.{PortState}
 use Rattle.mq_blocks.specs.declared.geometry.Geometry.{Geometry}
-use Rattle.mq_blocks.proofs.Options.{option-cases}
 use Rattle.mq_drive.specs.Steps.{PortFault}
 use Rattle.mq_drive.specs.declared.port.Port.{Ghosts}
 use Rattle.mq_exec.specs.Outcomes.{Answers, IsDone}
@@ -13,12 +11,11 @@ use Rattle.mq_exec.specs.declared.outcome.Outcome.TheVariants.{Done}
 use Rattle.mq_file_entries.specs.Group.{file_group}
 use Rattle.mq_file_entries.specs.declared.entry.FileEntry.{FileEntry}
 use Rattle.mq_inodes.specs.Fits.{Agrees, IsPossible}
-use Rattle.mq_inodes.specs.Pages.{held_pages, page_in}
+use Rattle.mq_inodes.specs.Pages.{held_pages}
 use Rattle.mq_inodes.proofs.PagesLifting.{laid-agrees}
-use Rattle.mq_pages.specs.Held.{Cells, cell_of}
+use Rattle.mq_pages.specs.Held.{Cells}
 use Rattle.mq_pages.specs.declared.page.PageCell.{PageCell}
-use Rattle.mq_desk_laws.specs.Groups.{GroupView}
-use Rattle.mq_desk_laws.specs.Rule.{DeskState, IsPage, geometry_of, map_now, shape_of}
+use Rattle.mq_desk_laws.specs.Rule.{DeskState, geometry_of, map_now, shape_of}
 use Rattle.mq_desk_laws.specs.Values.{Values}
 use Rattle.mq_desk_laws.proofs.RuleStaying.{good_now}
 use Rattle.mq_desk_laws.proofs.Meaning.{laws}
@@ -32,19 +29,11 @@ use Rattle.mq_turns.specs.Meaning.{Meaning}
 use Rattle.mq_turns.specs.declared.rule.Opening.{Opening}
 use Rattle.mq_turns.specs.declared.rule.ChairView.{ChairView}
 use Rattle.mq_turns.proofs.DeskSeen.{opening_seen}
-use Rattle.mq_calls.specs.Pages.{HoldsPages, IsSeen}
+use Rattle.mq_sessions.specs.Pages.{HoldsPages, IsSeen}
 use Rattle.mq_calls.specs.Runs
 use Rattle.mq_calls.specs.Runs.{IsDoneOnHeld}
-use Rattle.mq_calls.proofs.PagesHolding.{cells-now}
-
-module _ {Q R E : Type 0} (values : Values Q R E) (group : GroupView E) where
-  pub map-of-cells : (cells : Cells) (K : DeskState values group) → ((b : ℕ) (c : PageCell) → cell_of cells b ≡ Some c → IsPage values group b K c) → (b : ℕ) (page : Option (List ℕ)) → held_pages cells b ≡ Some page → map_now values group K b ≡ page
-  map-of-cells cells K are b page e = elim (option-cases (cell_of cells b)) [
-    | inl none ↦ absurd (none-some page (sym (ap page_in none) ∙ e))
-    | inr some ↦
-        let is : some.0.content ≡ page = same_Some some.0.content page (sym (ap page_in some.1) ∙ e) in
-        sym (are b some.0 some.1).content ∙ is
-  ]
+use Rattle.mq_sessions.proofs.PagesHolding.{cells-now}
+use Rattle.mq_sessions.proofs.PagesOfMap.{map-of-cells}
 
 module _ {P : Type 0} {G : Ghosts P} (state : P → PortState) (faults : P → List PortFault) where
   abbrev V : Values (QueueSide P FileEntry G) (Root P G) FileEntry

@@ -13,7 +13,7 @@ use Rattle.mq_turns.proofs.Lists.{each_map}
 use Rattle.mq_calls.specs.Acts.{Call, KeepsAll, ReadsOnly}
 use Rattle.mq_calls.specs.Calling.{IsReadOf}
 use Rattle.mq_calls.specs.Sessions.{HasCalled, IsReady}
-use Rattle.mq_calls.specs.Wanted.{IsSameSession}
+use Rattle.mq_sessions.specs.Wanted.{IsSameSession}
 
 drawn-more : (n : ℕ) (l : List (ℕ × FileEntry)) → Each (λ d. d.1.call < n) l → Each (λ d. d.1.call < n + 1) l
 drawn-more n l low = each_map (λ d. d.1.call < n) (λ d. d.1.call < n + 1) (λ d lt. omega arith) l low

@@ -33,6 +33,7 @@ use Rattle.mq_queue_side.specs.declared.answers.Cause.TheVariants as cause
 use Rattle.mq_queue_side.specs.declared.answers.Fit.TheVariants.{Area}
 use Rattle.mq_queue_side.specs.declared.answers.Why.{Why}
 use Rattle.mq_queue_side.specs.declared.side.QueueSide.{QueueSide}
+use Rattle.mq_sessions.specs.Calls.{Call as SessionCall}
 use Rattle.mq_tree.specs.declared.request.Reply.{Reply}
 use Rattle.mq_tree.specs.declared.request.Request.{Request}
 use Rattle.mq_turns.specs.Lists.{times}
@@ -44,13 +45,9 @@ use Rattle.mq_calls.specs.Runs.{file_values}
 use Rattle.mq_calls.specs.declared.answers.CallCause.{CallCause}
 use Rattle.mq_calls.specs.declared.answers.CallCause.TheVariants as refused
 
--- A call of a session: the session's number, how many calls it made before, whether the caller waits until
--- the group is done, and what is asked.
-pub record Call : Type 0 where
-  pub session : ℕ
-  pub count : ℕ
-  pub durable : Bool
-  pub requests : List Request
+-- a call of a session
+abbrev pub Call : Type 0
+Call = SessionCall Request
 
 -- what a call answers where its checkpoint was refused
 abbrev pub cause_of : CheckpointRefusal → CallCause

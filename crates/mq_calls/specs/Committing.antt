@@ -31,7 +31,7 @@ use Rattle.mq_turns.specs.declared.rule.Charge.{Charge}
 use Rattle.mq_turns.specs.declared.turn.Turn.TheVariants.{Side}
 use Rattle.mq_calls.specs.Acts.{Call, IsAreaFull, IsCaused, IsTurnedDown, LacksArea, MeetsRefusal}
 use Rattle.mq_calls.specs.Calling.{IsEntryFor}
-use Rattle.mq_calls.specs.Pages.{HoldsPages, IsSeen}
+use Rattle.mq_sessions.specs.Pages.{HoldsPages, IsSeen}
 use Rattle.mq_calls.specs.Runs.{files}
 use Rattle.mq_calls.specs.declared.answers.CallCause.TheVariants.{Drive, OutOfMemory}
 use Rattle.mq_calls.specs.declared.committing.Obstacle.{Obstacle}

@@ -1,5 +1,3 @@
-pub mod Pages
-pub mod Wanted
 pub mod Runs
 pub mod Sessions
 pub mod Acts
@@ -9,7 +7,6 @@ pub mod Preparing
 pub mod Asking
 pub mod Drawing
 pub mod Synchronizing
-pub mod Leaving
 pub mod Laws
 pub mod Opening
 pub mod Mounting

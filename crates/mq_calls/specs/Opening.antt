@@ -1,15 +1,13 @@
 -- A file system at its opening: over which ports it may be opened, and what its desk and its sessions are
 -- then.
-use Rattle.std.specs.Prelude.{◌≡◌, ◌≤◌, ℕ, List, [], length, map, Option, None}
+use Rattle.std.specs.Prelude.{◌≡◌, ◌≤◌, ℕ, List, [], length, map, Option}
 use Rattle.std.specs.List.{range_with_len}
 use Rattle.mq_blocks.specs.Drive.{PortState}
 use Rattle.mq_blocks.specs.Geometry.{homes_of}
 use Rattle.mq_blocks.specs.declared.geometry.Geometry.{Geometry}
-use Rattle.mq_drive.specs.Start.{IsPortOf}
 use Rattle.mq_drive.specs.Steps.{PortFault}
 use Rattle.mq_drive.specs.declared.port.Port.{Ghosts}
 use Rattle.mq_drive.specs.declared.port.Ports.{Ports}
-use Rattle.mq_drive.specs.declared.role.Role.TheVariants.{Queue}
 use Rattle.mq_file_entries.specs.Group.{CarriesVolume, file_group}
 use Rattle.mq_file_entries.specs.declared.entry.FileEntry.{FileEntry}
 use Rattle.mq_journal.specs.Numbers.{Seat, Start}
@@ -21,7 +19,6 @@ use Rattle.mq_recover.specs.Drives.{DriveState}
 use Rattle.mq_recover.specs.Recovery.{started}
 use Rattle.mq_recover.specs.declared.standing.Standing.{Standing}
 use Rattle.mq_desk_laws.specs.Opening.{IsFresh}
-use Rattle.mq_queue_side.specs.declared.side.QueueSide.{QueueSide}
 use Rattle.mq_tree.specs.Laid.{map_of}
 use Rattle.mq_turns.specs.Desk.{fresh}
 use Rattle.mq_calls.specs.Runs.{file_values, geometry_at}
@@ -51,28 +48,6 @@ first_cell base content =
 -- the cells of all home blocks
 abbrev pub first_cells : Geometry → List (Option (List ℕ)) → ℕ → List PageCell
 first_cells g stored base = map (λ b. first_cell base (map_of g stored b)) (range_with_len 0 (homes_of g))
-
--- Nothing is under way on the port of the queue.
-pub record IsIdle (g : Geometry) (q : ℕ) (p : PortState) : Type 0 where
-  pub port : IsPortOf g (Queue q) p
-  pub head : p.head ≡ p.doorbell
-  pub stored_head : p.stored_head ≡ p.doorbell
-  pub pending : p.pending ≡ []
-  pub posted : p.posted ≡ []
-  pub failed : p.failed ≡ []
-  pub flushed : p.flushed_end ≡ p.doorbell
-
-module _ {P E : Type 0} {G : Ghosts P} (state : P → PortState) where
-  -- the side of the queue, on which nothing was drawn yet
-  pub record IsNewSide (g : Geometry) (q : ℕ) (s : QueueSide P E G) : Type 0 where
-    pub geometry : s.pmr.geometry ≡ g
-    pub queue : s.pmr.queue ≡ q
-    pub idle : IsIdle g q (state s.pmr.port)
-    pub passed : s.pmr.done ≡ record { tx = 0; end = (state s.pmr.port).doorbell }
-    pub rung : s.pmr.rung.items ≡ []
-    pub stored : s.stored.items ≡ []
-    pub done : s.done ≡ 0
-    pub kept : s.kept ≡ None
 
 module _ {P : Type 0} {G : Ghosts P} (state : P → PortState) (faults : P → List PortFault) where
   -- What a desk was opened with over these ports: the map in its cells, and the ports, each where it was.

@@ -1,5 +1,5 @@
 -- A group of file requests on the pages that a session holds.
-use Rattle.std.specs.Prelude.{ℕ, List}
+use Rattle.std.specs.Prelude.{◌≡◌, ℕ, List}
 use Rattle.mq_blocks.specs.Drive.{PortState}
 use Rattle.mq_blocks.specs.declared.geometry.Geometry.{Geometry}
 use Rattle.mq_drive.specs.Steps.{PortFault}
@@ -7,8 +7,9 @@ use Rattle.mq_drive.specs.declared.port.Port.{Ghosts}
 use Rattle.mq_exec.specs.Outcomes.{AreKnown, Answers}
 use Rattle.mq_exec.specs.declared.outcome.Done.{Done}
 use Rattle.mq_exec.specs.declared.outcome.Outcome.TheVariants.{Done as IsDone}
+use Rattle.mq_file_entries.specs.Entries.{IsAllLogged}
 use Rattle.mq_file_entries.specs.Group.{file_group}
-use Rattle.mq_file_entries.specs.Plans.{DoneOn}
+use Rattle.mq_file_entries.specs.Plans.{DoneOn, IsEntryOf}
 use Rattle.mq_file_entries.specs.declared.entry.FileEntry.{FileEntry}
 use Rattle.mq_inodes.specs.Pages.{held_pages}
 use Rattle.mq_journal.specs.Machine.{journal}
@@ -19,6 +20,8 @@ use Rattle.mq_desk_laws.specs.Rule.{DeskState, geometry_of, map_now, shape_of}
 use Rattle.mq_desk_laws.specs.Values.{Values}
 use Rattle.mq_queue_side.specs.declared.root.Root.{Root}
 use Rattle.mq_queue_side.specs.declared.side.QueueSide.{QueueSide}
+use Rattle.mq_sessions.specs.Calls.{Call}
+use Rattle.mq_sessions.specs.Executors.{CallView}
 use Rattle.mq_tree.specs.declared.request.Request.{Request}
 use Rattle.mq_turns.specs.Desk.{Sees}
 use Rattle.mq_turns.specs.Meaning.{Meaning}
@@ -29,6 +32,23 @@ use Rattle.mq_turns.specs.declared.rule.ChairView.{ChairView}
 -- block that it changes is among them.
 abbrev pub IsDoneOnCells : Geometry → (session : ℕ) → List Request → Cells → Done → Type 0
 IsDoneOnCells g session requests cells done = Answers g session (held_pages cells) requests (IsDone done)
+
+-- the entry is of this call and of what its group came to
+pub record IsEntryFor (c : Call Request) (done : Done) (e : FileEntry) : Type 0 where
+  pub is : IsEntryOf c.session c.requests done e
+  pub call : e.call ≡ c.count
+  pub durable : e.durable ≡ c.durable
+
+-- how a group of file requests is read, and what it came to
+abbrev pub file_calls : CallView FileEntry Request Done
+file_calls = record {
+  writes = λ done. done.writes.items;
+  frees = λ done. done.frees.items;
+  on_cells = λ g session cells requests done. IsDoneOnCells g session requests cells done;
+  on_map = λ g session m requests done. DoneOn g session m requests done;
+  entry_for = λ c done e. IsEntryFor c done e;
+  undrawn = λ e. IsAllLogged e;
+}
 
 module _ {P : Type 0} {G : Ghosts P} (state : P → PortState) (faults : P → List PortFault) where
   -- what the sides and the root show, and what the values and the groups mean

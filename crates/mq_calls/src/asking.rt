@@ -8,12 +8,11 @@ ghost use Rattle.mq_calls.specs.Asking.{IsFirstChange, IsNotAnswered, refusal_at
 ghost use Rattle.mq_calls.specs.Sessions.{IsReady};
 
 use crate::answers::{Answer, CallCause, Refusal};
-use crate::asked::Asked;
-use crate::reading::read_group;
 use crate::rounds::run_held;
 use crate::session::{CALL_LIMIT, Mqfs, Session};
 use mq_blocks::OutOfMemory;
 use mq_drive::Port;
+use mq_sessions::{Asked, read_group};
 use mq_tree::{Request, changes};
 use std::alloc::Global;
 use std::sync::Wait;

@@ -9,15 +9,15 @@ ghost use Rattle.mq_calls.specs.Sessions.{IsReady};
 ghost use Rattle.mq_calls.specs.declared.committing.Miss.TheVariants as miss;
 
 use crate::answers::{Answer, CallCause, Refusal};
-use crate::asked::Asked;
 use crate::committing::Miss;
 use crate::drawing::commit;
-use crate::reading::read_group;
 use crate::rounds::run_held;
 use crate::session::{CALL_LIMIT, Mqfs, Session};
 use mq_blocks::TxNo;
 use mq_drive::Port;
 use mq_exec::Done;
+use mq_sessions::{Asked, read_group};
+use mq_tree::Request;
 use std::alloc::Global;
 use std::sync::Wait;
 
@@ -34,7 +34,7 @@ impl<P: Port + Drop> Mqfs<P> {
         &self,
         alloc: Global,
         session: &mut Session<P>,
-        asked: &Asked,
+        asked: &Asked<Request>,
         done: &Done,
     ) -> Result<TxNo, Miss>
         requires desk { AtDesk self.now.desk session.old.chair }
@@ -72,7 +72,7 @@ impl<P: Port + Drop> Mqfs<P> {
         rt: &R,
         alloc: Global,
         session: &mut Session<P>,
-        asked: &Asked,
+        asked: &Asked<Request>,
         mut done: Done,
     ) -> Result<Answer, Miss>
         requires desk { AtDesk self.now.desk session.old.chair }
@@ -134,7 +134,7 @@ impl<P: Port + Drop> Mqfs<P> {
         rt: &R,
         alloc: Global,
         session: &mut Session<P>,
-        asked: &Asked,
+        asked: &Asked<Request>,
     ) -> Result<Answer, Miss>
         requires desk { AtDesk self.now.desk session.old.chair }
         requires ready { IsReady self.now.geometry asked.now.queue asked.now.calls session.old.held

@@ -9,13 +9,12 @@ ghost use Rattle.mq_calls.specs.Sessions.{IsReady};
 ghost use Rattle.mq_calls.specs.Synchronizing.{IsDurable, IsNotDurable, WasDrainRefused};
 
 use crate::answers::{Answer, CallCause, Refusal};
-use crate::asked::Asked;
 use crate::committing::Miss;
-use crate::gate::{Gate, Point};
 use crate::session::{CALL_LIMIT, Mqfs, Session};
 use mq_checkpoint::CheckpointRefusal;
 use mq_drive::Port;
 use mq_journal::drain_all;
+use mq_sessions::{Asked, Gate, Point};
 use mq_tree::Request;
 use std::alloc::Global;
 use std::sync::Wait;
@@ -84,7 +83,7 @@ impl<P: Port + Drop> Mqfs<P> {
         rt: &R,
         alloc: Global,
         session: &mut Session<P>,
-        asked: &Asked,
+        asked: &Asked<Request>,
     ) -> Result<Answer, Refusal>
         requires desk { AtDesk self.now.desk session.old.chair }
         requires ready { IsReady self.now.geometry asked.now.queue asked.now.calls session.old.held

@@ -9,15 +9,13 @@ ghost use Rattle.mq_calls.specs.Acts.{GoesOn, WasCutAt};
 ghost use Rattle.mq_calls.specs.Calling.{IsAsking, call_of};
 ghost use Rattle.mq_calls.specs.Committing.{HoldsCommit, IsMissed, IsPrepared, OnlyReports, ShowsObstacle, miss_for, reports_for};
 ghost use Rattle.mq_calls.specs.Drawing.{HasDrawn, IsCommitted, SameSeat};
-ghost use Rattle.mq_calls.specs.Pages.{HoldsOnlyPages, IsSeen};
+ghost use Rattle.mq_sessions.specs.Pages.{HoldsOnlyPages, IsSeen};
 ghost use Rattle.mq_calls.specs.Runs.{IsDoneOnCells, files, geometry_at};
 
 use crate::answers::{CallCause, Refusal};
-use crate::asked::Asked;
 use crate::committing::{Miss, Obstacle, Ready};
 use crate::leaving::give_drawn_pages;
 use crate::machine::FileMachine;
-use crate::pages::give_back_pages;
 use crate::preparing::make_ready;
 use mq_blocks::{Geometry, TxNo};
 use mq_drive::Port;
@@ -27,6 +25,8 @@ use mq_journal::{give_back_side, number, report_of, report_side, send, take_side
 use mq_pages::Held;
 use mq_queue_side::{Cause, QueueSide};
 use mq_revoke::Placement;
+use mq_sessions::{Asked, give_back_pages};
+use mq_tree::Request;
 use mq_turns::{Chair, Desk};
 use std::alloc::Global;
 use std::sync::Wait;
@@ -38,7 +38,7 @@ fn draw_group<P: Port + Drop>(
     chair: &mut Chair<FileMachine<P>>,
     mut side: QueueSide<P, FileEntry>,
     held: &mut Held,
-    asked: &Asked,
+    asked: &Asked<Request>,
     plan: &Placement,
     done: &mut Done,
     ready: Ready,
@@ -145,7 +145,7 @@ pub(crate) fn commit<P: Port + Drop, R: Wait>(
     desk: &Desk<FileMachine<P>>,
     chair: &mut Chair<FileMachine<P>>,
     geometry: Geometry,
-    asked: &Asked,
+    asked: &Asked<Request>,
     held: &mut Held,
     done: &mut Done,
     into: &mut Placement,

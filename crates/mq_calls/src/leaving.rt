@@ -4,8 +4,8 @@ ghost use Rattle.mq_blocks.specs.Descriptor.{AreRising};
 ghost use Rattle.mq_file_entries.specs.Entries.{tx_by};
 ghost use Rattle.mq_file_entries.specs.Laws.{blocks_in};
 ghost use Rattle.mq_turns.specs.AtDesk.{AtDesk, view, start_of};
-ghost use Rattle.mq_calls.specs.Leaving.{AreOnCells, cells_after};
-ghost use Rattle.mq_calls.specs.Pages.{HoldsPages, blocks_of, giving_pages};
+ghost use Rattle.mq_sessions.specs.Leaving.{AreOnCells, cells_after};
+ghost use Rattle.mq_sessions.specs.Pages.{HoldsPages, blocks_of, giving_pages};
 ghost use Rattle.mq_calls.specs.Runs.{files};
 
 use crate::machine::FileMachine;

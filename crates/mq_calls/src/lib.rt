@@ -3,7 +3,6 @@
 #![tactic(auto)]
 
 mod answers;
-mod asked;
 mod asking;
 mod attempting;
 mod calls;
@@ -11,31 +10,26 @@ mod checkpointing;
 mod closing;
 mod committing;
 mod drawing;
-mod gate;
 mod laws;
 mod leaving;
 mod machine;
 mod mounting;
 mod opening;
-mod pages;
 mod preparing;
-mod reading;
 mod rounds;
 mod session;
 mod settling;
 mod telling;
-mod wanted;
 
 pub use answers::{Answer, CallCause, Refusal};
-pub use gate::{Gate, Open, Point};
-pub use laws::{
-    a_done_group_stands, a_reading_group_changes_nothing, current_pages_are_of_the_map,
-    drawn_pages_are_held, held_pages_are_current, held_pages_stay, no_page_is_left,
-};
+pub use laws::{a_done_group_stands, a_reading_group_changes_nothing};
 pub use machine::{FileGroups, FileMachine, Shaped};
 pub use mounting::find_volume;
 pub use mq_checkpoint::CheckpointRefusal;
-pub use pages::{give_back_pages, take_pages};
+pub use mq_sessions::{
+    Gate, Open, Point, current_pages_are_of_the_map, drawn_pages_are_held, give_back_pages,
+    held_pages_are_current, held_pages_stay, no_page_is_left, take_pages,
+};
 pub use rounds::run_held;
 pub use session::{FileSystem, Mqfs, Session, User};
 pub use settling::{Aide, Helper};

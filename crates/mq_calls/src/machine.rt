@@ -1,8 +1,15 @@
 // The machine of a file system.
+use mq_blocks::{Geometry, OutOfMemory, QueueNo};
+use mq_desk_laws::JournalValues;
 use mq_drive::Port;
+use mq_exec::{Done, View};
 use mq_file_entries::FileEntry;
 use mq_journal::{Groups, JournalMachine};
+use mq_pages::Held;
+use mq_sessions::{Asked, Executor, Outcome};
+use mq_tree::Request;
 use mq_turns::Machine;
+use std::alloc::Global;
 
 /// The groups of file requests.
 pub struct FileGroups;
@@ -13,6 +20,50 @@ impl Groups for FileGroups {
     ghost use Rattle.mq_file_entries.specs.Group.{file_group};
 
     ghost group = { file_group };
+}
+
+impl Executor for FileGroups {
+    ghost use Rattle.mq_calls.specs.Runs.{file_calls};
+
+    type Request = Request;
+
+    type Done = Done;
+
+    ghost calls = { file_calls };
+
+    fn run(
+        alloc: Global,
+        geometry: Geometry,
+        queue: QueueNo,
+        requests: &[Request],
+        held: &Held,
+    ) -> Result<Outcome<Done>, OutOfMemory> {
+        match mq_exec::run(alloc, geometry, queue, requests, &View::new(held))? {
+            mq_exec::Outcome::Done(done) => Ok(Outcome::Done(done)),
+            mq_exec::Outcome::Need(blocks) => Ok(Outcome::Need(blocks)),
+        }
+    }
+
+    fn undrawn(
+        alloc: Global,
+        asked: &Asked<Request>,
+        done: &Done,
+    ) -> Result<FileEntry, OutOfMemory> {
+        FileEntry::undrawn(
+            alloc,
+            asked.queue.0,
+            asked.calls,
+            asked.durable,
+            asked.requests,
+            done,
+        )
+    }
+
+    fn done_groups_are_on_maps() {}
+
+    fn entries_are_of_calls() {}
+
+    fn undrawn_groups_fit<J: JournalValues<Entry = FileEntry>>() {}
 }
 
 /// The machine of a file system over ports of this kind: pages are cells of home blocks, sides those of

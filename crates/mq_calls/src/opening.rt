@@ -12,7 +12,6 @@ ghost use Rattle.mq_calls.specs.Opening.{IsEquipped, IsNewSession, IsOpenedOver,
 
 mod cells;
 mod seats;
-mod sides;
 
 use crate::machine::FileMachine;
 use crate::session::{Mqfs, Session};
@@ -25,9 +24,9 @@ use mq_pages::{Held, PageCell};
 use mq_queue_side::{QueueSide, Root};
 use mq_recover::Standing;
 use mq_revoke::Placement;
+use mq_sessions::{open_sides, unmake_sides};
 use mq_turns::{Chair, Desk, Machine};
 use seats::{equip, seat, set_apart};
-use sides::{open_sides, unmake_sides};
 use std::alloc::Global;
 
 // What an opening takes memory for before it takes a port: the cells, and what the sessions and the helpers

@@ -12,12 +12,11 @@ ghost use Rattle.mq_queue_side.specs.declared.answers.Fit.TheVariants.{Yes};
 ghost use Rattle.mq_turns.specs.AtDesk.{AtDesk, start_of, view};
 ghost use Rattle.mq_calls.specs.Calling.{IsAsking, IsEntryFor, call_of};
 ghost use Rattle.mq_calls.specs.Committing.{HasRead, HoldsCommit, IsObstacle, IsPlacedOn, IsPrepared, HasNoRoom, ReadsWords};
-ghost use Rattle.mq_calls.specs.Pages.{IsSeen};
+ghost use Rattle.mq_sessions.specs.Pages.{IsSeen};
 ghost use Rattle.mq_calls.specs.Preparing.{IsDrainedForRoom, IsEntryReady, IsMadeReady, IsSideOf, KeepsSide, cause_kept};
 ghost use Rattle.mq_calls.specs.Runs.{IsDoneOnCells, files, geometry_at};
 ghost use Rattle.mq_calls.specs.declared.committing.Obstacle.TheVariants as obstacle;
 
-use crate::asked::Asked;
 use crate::committing::{Obstacle, Ready};
 use crate::machine::FileMachine;
 use mq_blocks::{Geometry, OutOfMemory, QueueNo, TxNo};
@@ -28,6 +27,8 @@ use mq_journal::drain_held;
 use mq_pages::{Held, Write};
 use mq_queue_side::{Cause, Fit, QueueSide};
 use mq_revoke::{Placement, plan};
+use mq_sessions::Asked;
+use mq_tree::Request;
 use mq_turns::{Chair, Desk};
 use std::alloc::Global;
 
@@ -115,7 +116,7 @@ fn make_room<P: Port + Drop>(
 fn prepare<P: Port + Drop>(
     alloc: Global,
     side: &mut QueueSide<P, FileEntry>,
-    asked: &Asked,
+    asked: &Asked<Request>,
     done: &Done,
     plan: &Placement,
     reads: Reads,
@@ -153,7 +154,7 @@ pub(crate) fn make_ready<P: Port + Drop>(
     desk: &Desk<FileMachine<P>>,
     chair: &mut Chair<FileMachine<P>>,
     side: &mut QueueSide<P, FileEntry>,
-    asked: &Asked,
+    asked: &Asked<Request>,
     held: &Held,
     done: &Done,
     into: &mut Placement,

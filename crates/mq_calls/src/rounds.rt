@@ -3,61 +3,19 @@ ghost use Rattle.std.specs.Prelude.{◌≡◌, ◌<◌, ◌≤◌, ℕ, [], leng
 ghost use Rattle.std.specs.List.{Contains};
 ghost use Rattle.mq_blocks.specs.Geometry.{homes_of, queues_of};
 ghost use Rattle.mq_turns.specs.AtDesk.{AtDesk, view, start_of};
-ghost use Rattle.mq_calls.specs.Pages.{HoldsOnlyPages, IsSeen, blocks_of};
 ghost use Rattle.mq_calls.specs.Runs.{IsDoneOnCells, files, geometry_at};
-ghost use Rattle.mq_calls.specs.Wanted.{AreWanted, HaveSame, HoldsWanted, IsSameSession};
+ghost use Rattle.mq_sessions.specs.Pages.{HoldsOnlyPages, IsSeen, blocks_of};
+ghost use Rattle.mq_sessions.specs.Wanted.{AreWanted, HaveSame, IsSameSession};
 
 use crate::machine::FileMachine;
-use crate::pages::{give_back_pages, take_pages};
-use crate::wanted::take_more;
 use mq_blocks::{BlockNo, Geometry, OutOfMemory, QueueNo};
 use mq_drive::Port;
-use mq_exec::{Done, Outcome, View, run};
-use mq_file_entries::FileEntry;
+use mq_exec::Done;
 use mq_pages::Held;
 use mq_tree::Request;
 use mq_turns::{Chair, Desk};
 use std::alloc::Global;
 use std::sync::Wait;
-
-// Runs the group, fetching missing pages until none is missing. The pages stay held even if memory
-// runs out.
-fn run_in_rounds<P: Port + Drop, R: Wait>(
-    rt: &R,
-    alloc: Global,
-    desk: &Desk<FileMachine<P>>,
-    chair: &mut Chair<FileMachine<P>>,
-    geometry: Geometry,
-    queue: QueueNo,
-    requests: &[Request],
-    wanted: &mut Vec<BlockNo>,
-    held: &mut Held,
-) -> Result<Done, OutOfMemory>
-    requires at { AtDesk desk.now chair.old }
-    requires geometry { geometry_at P.state P.faults (start_of desk.now) ≡ geometry }
-    requires pages { length (start_of desk.now).pages ≡ homes_of geometry }
-    requires queue { queue < queues_of geometry }
-    requires wanted { AreWanted (homes_of geometry) wanted.old.items }
-    requires holds { HoldsWanted (files P.state P.faults) (start_of desk.now) wanted.old.items
-        held.old.cells (view chair.old) }
-    requires room { homes_of geometry ≤ held.old.room }
-    ensures at { AtDesk desk.now chair.new }
-    ensures wanted { AreWanted (homes_of geometry) wanted.new.items }
-    ensures keeps { (b : ℕ) → Contains wanted.old.items b → Contains wanted.new.items b }
-    ensures holds { HoldsWanted (files P.state P.faults) (start_of desk.now) wanted.new.items
-        held.new.cells (view chair.new) }
-    ensures done { IfOk result (λ done.
-        IsDoneOnCells geometry queue requests.now held.new.cells done) }
-    ensures same { IsSameSession (view chair.old) (view chair.new) }
-    ensures room { held.new.room ≡ held.old.room }
-{
-    'rounds: loop {
-        match run(alloc, geometry, queue, requests, &View::new(held))? {
-            Outcome::Done(done) => return Ok(done),
-            Outcome::Need(blocks) => take_more(rt, desk, chair, wanted, held, &blocks)?,
-        }
-    }
-}
 
 /// What a group of requests of a session comes to. It begins with the pages of the wanted blocks, and takes
 /// those that the group misses; their blocks are wanted from then on. The chair then holds just the pages
@@ -94,16 +52,7 @@ pub fn run_held<P: Port + Drop, R: Wait>(
     ensures same { IsSameSession (view chair.old) (view chair.new) }
     ensures room { held.new.room ≡ held.old.room }
 {
-    let none: Option<&FileEntry> = None;
-    desk.look(chair, none);
-    take_pages(rt, desk, chair, held, wanted);
-    match run_in_rounds(
+    mq_sessions::run_held(
         rt, alloc, desk, chair, geometry, queue, requests, wanted, held,
-    ) {
-        Ok(done) => Ok(done),
-        Err(wanting) => {
-            give_back_pages(desk, chair, held);
-            Err(wanting)
-        }
-    }
+    )
 }

@@ -11,7 +11,8 @@ use Rattle.mq_calls.specs.Runs.{IsDoneOnCells, files}
 use Rattle.mq_calls.specs.declared.committing.Miss.{Miss}
 use Rattle.mq_calls.proofs.Acts.{committed-of, cut-of, holds-more, obstacle-shown, missed-for}
 use Rattle.mq_calls.proofs.ActsGoingOn.{goes-drawn, goes-holds, goes-reports, goes-then, goes-words}
-use Rattle.mq_calls.proofs.CommittingInHand.{commit-taken, side-above}
+use Rattle.mq_calls.proofs.CommittingInHand.{commit-taken}
+use Rattle.mq_sessions.proofs.PagesBeside.{side-above}
 use Rattle.mq_calls.proofs.drawing.commit.Goals as goal
 
 pub take_side-side-requires-clause-above : goal.take_side-side-requires-clause-above

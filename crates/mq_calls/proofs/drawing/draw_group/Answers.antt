@@ -6,14 +6,15 @@ use Rattle.mq_pages.specs.Held.{Cells}
 use Rattle.mq_turns.specs.AtDesk.{start_of, view}
 use Rattle.mq_turns.specs.declared.rule.Report.TheVariants as report
 use Rattle.mq_calls.specs.Acts.{IsUnderWay}
-use Rattle.mq_calls.specs.Leaving.{cells_after}
-use Rattle.mq_calls.specs.Pages.{HoldsPages}
+use Rattle.mq_sessions.specs.Leaving.{cells_after}
+use Rattle.mq_sessions.specs.Pages.{HoldsPages}
 use Rattle.mq_calls.specs.Runs.{files}
-use Rattle.mq_calls.proofs.LeavingAfterDraw.{drawn-held, entry-leaves, numbered-left}
-use Rattle.mq_calls.proofs.WantedFurther.{cells-below}
+use Rattle.mq_calls.proofs.LeavingAfterDraw.{entry-leaves}
+use Rattle.mq_sessions.proofs.WantedFurther.{cells-below}
 use Rattle.mq_calls.proofs.ActsUnderWay.{under-way}
 use Rattle.mq_calls.proofs.DrawingSent.{cut-at, has-drawn}
 use Rattle.mq_calls.proofs.drawing.draw_group.Goals as goal
+use Rattle.mq_sessions.proofs.DrawnPages.{drawn-held, numbered-left}
 
 pub give_drawn_pages-requires-clause-pages : goal.give_drawn_pages-requires-clause-pages
 give_drawn_pages-requires-clause-pages g c =

@@ -3,11 +3,11 @@ use Rattle.mq_file_entries.specs.declared.entry.FileEntry.{FileEntry}
 use Rattle.mq_journal.specs.Numbers.{Seat}
 use Rattle.mq_turns.specs.AtDesk.{start_of, view}
 use Rattle.mq_calls.specs.Committing.{reports_for}
-use Rattle.mq_calls.specs.Pages.{blocks_of}
+use Rattle.mq_sessions.specs.Pages.{blocks_of}
 use Rattle.mq_calls.specs.Runs.{files}
-use Rattle.mq_calls.proofs.PagesNotDrawn.{given-empty}
 use Rattle.mq_calls.proofs.DrawingSent.{reports-left}
 use Rattle.mq_calls.proofs.drawing.give_up.Goals as goal
+use Rattle.mq_sessions.proofs.PagesBeside.{given-empty}
 
 pub returns-clause-idle : goal.returns-clause-idle
 returns-clause-idle g c =

@@ -4,7 +4,7 @@ use Rattle.mq_desk_laws.proofs.Meaning.{laws}
 use Rattle.mq_turns.specs.AtDesk.{start_of, view}
 use Rattle.mq_calls.specs.Runs.{file_values, files}
 use Rattle.mq_calls.proofs.LeavingAfterDraw.{left-all, left-last, left-more, left-none, left-rises}
-use Rattle.mq_calls.proofs.PagesHolding.{last-stands}
+use Rattle.mq_sessions.proofs.PagesHolding.{last-stands}
 use Rattle.mq_calls.proofs.leaving.give_drawn_pages.Goals as goal
 
 pub loop-block-init : goal.loop-block-init

@@ -2,7 +2,7 @@ use Rattle.std.proofs.Common.{◌∙◌, inl, refl}
 use Rattle.std.specs.Prelude.{false}
 use Rattle.mq_turns.specs.AtDesk.{start_of, view}
 use Rattle.mq_calls.proofs.Sessions.{reads-only, ready-again, ready-read}
-use Rattle.mq_calls.proofs.WantedFurther.{same-then}
+use Rattle.mq_sessions.proofs.WantedFurther.{same-then}
 use Rattle.mq_calls.proofs.ActsGoingOn.{goes-read, goes-same, goes-then}
 use Rattle.mq_calls.proofs.PagesNotDrawn.{reads-nothing}
 use Rattle.mq_calls.proofs.asking.Mqfs+P.read.Goals as goal

@@ -8,7 +8,7 @@ use Rattle.mq_calls.specs.declared.committing.Miss.{Miss}
 use Rattle.mq_calls.proofs.Sessions.{reads-only}
 use Rattle.mq_calls.proofs.ActsComposing.{large-of, written-few}
 use Rattle.mq_calls.proofs.ActsUnderWay.{waits-read}
-use Rattle.mq_calls.proofs.WantedFurther.{same-at-once}
+use Rattle.mq_sessions.proofs.WantedFurther.{same-at-once}
 use Rattle.mq_calls.proofs.attempting.Mqfs+P.finish.Goals as goal
 
 pub returns-then-is_empty-2-clause-acts : goal.returns-then-is_empty-2-clause-acts

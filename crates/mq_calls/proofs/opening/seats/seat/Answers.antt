@@ -1,7 +1,7 @@
 use Rattle.std.proofs.Common.{◌≡◌, ◌+◌, ◌++◌, ◌∷◌, [], length, refl, ap, ◌∙◌, arith, rules}
 use Rattle.std.proofs.lemmas.List.{length_push}
 use Rattle.mq_calls.specs.Opening.{IsUncalled}
-use Rattle.mq_calls.proofs.ReversedLists.{moved-more}
+use Rattle.mq_sessions.proofs.ReversedLists.{moved-more}
 use Rattle.mq_calls.proofs.opening.seats.seat.Goals as goal
 
 pub loop-chair-preserved : goal.loop-chair-preserved

@@ -1,7 +1,7 @@
 use Rattle.std.proofs.Common.{◌≡◌, ◌+◌, ◌≤◌, length}
 use Rattle.std.specs.Prelude.{vec_capacity}
 use Rattle.mq_calls.specs.Opening.{IsUncalled}
-use Rattle.mq_calls.proofs.ReversedLists.{HasMoved}
+use Rattle.mq_sessions.proofs.ReversedLists.{HasMoved}
 use Rattle.mq_calls.proofs.opening.seats.seat.Given as goal
 
 abbrev pub invariant-loop-chair : goal.invariant-loop-chair

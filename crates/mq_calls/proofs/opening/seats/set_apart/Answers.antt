@@ -1,6 +1,6 @@
 use Rattle.std.proofs.Common.{◌≡◌, ◌+◌, ◌++◌, ◌∷◌, [], length, refl, ap, ◌∙◌, arith}
 use Rattle.std.proofs.lemmas.List.{length_push}
-use Rattle.mq_calls.proofs.ReversedLists.{moved-more}
+use Rattle.mq_sessions.proofs.ReversedLists.{moved-more}
 use Rattle.mq_calls.proofs.opening.seats.set_apart.Goals as goal
 
 pub loop-chairs-preserved : goal.loop-chairs-preserved

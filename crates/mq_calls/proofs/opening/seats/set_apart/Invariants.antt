@@ -1,6 +1,6 @@
 use Rattle.std.proofs.Common.{◌+◌, ◌≤◌, length}
 use Rattle.std.specs.Prelude.{vec_capacity}
-use Rattle.mq_calls.proofs.ReversedLists.{HasMoved}
+use Rattle.mq_sessions.proofs.ReversedLists.{HasMoved}
 use Rattle.mq_calls.proofs.opening.seats.set_apart.Given as goal
 
 abbrev pub invariant-loop-chairs : goal.invariant-loop-chairs

@@ -1,5 +1,0 @@
-use Rattle.mq_calls.proofs.RunsFinding.{map-of-cells}
-use Rattle.mq_calls.proofs.laws.current_pages_are_of_the_map.Goals as goal
-
-pub returns : goal.returns
-returns g c = λ cells K are b page e. map-of-cells g.J.JournalValues.values g.J.JournalValues.group cells K are b page e

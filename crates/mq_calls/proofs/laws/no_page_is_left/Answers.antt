@@ -1,5 +1,0 @@
-use Rattle.mq_calls.proofs.LeavingAfterDraw.{nothing-left}
-use Rattle.mq_calls.proofs.laws.no_page_is_left.Goals as goal
-
-pub returns : goal.returns
-returns g c = λ cells v slot is. nothing-left cells slot v.held is

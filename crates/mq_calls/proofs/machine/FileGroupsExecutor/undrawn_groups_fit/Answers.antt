@@ -1,0 +1,17 @@
+use Rattle.std.proofs.Common.{ℕ, ◌<◌, refl, sym, subst}
+use Rattle.mq_blocks.specs.Geometry.{queues_of}
+use Rattle.mq_desk_laws.specs.Rule.{geometry_of, map_now}
+use Rattle.mq_file_entries.specs.Group.{file_group}
+use Rattle.mq_file_entries.specs.Plans.{DoneOn}
+use Rattle.mq_file_entries.proofs.LawsRuling.{fits}
+use Rattle.mq_calls.proofs.machine.FileGroupsExecutor.undrawn_groups_fit.Goals as goal
+
+pub returns : goal.returns
+returns g c = λ K call done e on is queue few logged.
+    let V = g.J.JournalValues.values in
+    fits V K call.requests done e
+    (subst (λ (n : ℕ). DoneOn (geometry_of V file_group K) n (map_now V file_group K) call.requests done) (sym is.is.session_is) on)
+    (record { session_is = refl; requests_are = is.is.requests_are; replies_are = is.is.replies_are; writes_are = is.is.writes_are; frees_are = is.is.frees_are })
+    (subst (λ (n : ℕ). n < queues_of (geometry_of V file_group K)) (sym is.is.session_is) queue)
+    few
+    logged

@@ -1,0 +1,12 @@
+pub mod PagesLists
+pub mod PagesHolding
+pub mod PagesTaking
+pub mod PagesCounting
+pub mod PagesOfMap
+pub mod ExecutorsNow
+pub mod ReadingGroups
+pub mod WantedFurther
+pub mod WantedMissing
+pub mod PagesBeside
+pub mod DrawnPages
+pub mod ReversedLists
