@@ -7,7 +7,7 @@ use Rattle.mq_blocks.specs.Drive.{PortImage}
 use Rattle.mq_blocks.specs.Geometry.{homes_of, queues_of}
 use Rattle.mq_blocks.specs.Journal.{stands}
 use Rattle.mq_blocks.specs.declared.geometry.Geometry.{Geometry}
-use Rattle.mq_command_gen.specs.Generated.{AreGood, EndDurable, HoldsAll, IsGenerated, IsHistory, IsShape, IsWholeRun, last_volume, to_the_end}
+use Rattle.mq_command_gen.specs.Generated.{AreGood, EndDurable, HoldsAll, IsGenerated, IsHistory, IsShape, IsWholeRun, last_volume, sessions_alone}
 use Rattle.mq_command_gen.specs.declared.generated.Generated.{Generated}
 use Rattle.mq_command_gen.proofs.Empty.{starts-empty}
 use Rattle.mq_command_gen.proofs.GeneratedLasts.{each-line, reaches-last, rung-all}
@@ -37,7 +37,7 @@ use Rattle.mq_tree.proofs.Decoded.{length-table, table-at}
 
 -- ---- the history
 
-module _ (scripts : List Script) (r : ImageRun) (x : DriveImage) (empty : IsEmptyDrive x.geometry x) (promise : KeepsPromise x scripts to_the_end r) (bytes : AreOfBytes scripts) (durable : EndDurable scripts)
+module _ (scripts : List Script) (r : ImageRun) (x : DriveImage) (empty : IsEmptyDrive x.geometry x) (promise : KeepsPromise x scripts sessions_alone r) (bytes : AreOfBytes scripts) (durable : EndDurable scripts)
     (good : AreGood r.answers.items) where
   abbrev g : Geometry
   g = x.geometry
@@ -88,12 +88,12 @@ module _ (scripts : List Script) (r : ImageRun) (x : DriveImage) (empty : IsEmpt
 
 pub whole-run : (g : Geometry) (scripts : List Script) (r : ImageRun) → RunsKeepTheirPromise → IsWholeRun g scripts r → AreOfBytes scripts → EndDurable scripts → IsHistory g scripts r.entries.items × HoldsAll g scripts r.entries.items r.image
 whole-run g scripts r keeps run bytes durable =
-    let x = run.start in
-    let same = run.empty.geometry_is in
-    let empty : IsEmptyDrive x.geometry x = subst (λ (h : Geometry). IsEmptyDrive h x) (sym same) run.empty in
-    let promise = keeps x scripts to_the_end r run.run bytes in
+    let x = run.played.start in
+    let same = run.played.empty.geometry_is in
+    let empty : IsEmptyDrive x.geometry x = subst (λ (h : Geometry). IsEmptyDrive h x) (sym same) run.played.empty in
+    let promise = keeps x scripts sessions_alone r run.played.run bytes in
     subst (λ (h : Geometry). IsHistory h scripts r.entries.items × HoldsAll h scripts r.entries.items r.image) same
-    (history scripts r x empty promise bytes durable run.good, holds scripts r x empty promise bytes durable run.good run.run.geometry run.run.drive)
+    (history scripts r x empty promise bytes durable run.good, holds scripts r x empty promise bytes durable run.good run.played.run.geometry run.played.run.drive)
 
 -- ---- what stands on the image
 

@@ -3,3 +3,7 @@ pub mod GeneratedLasts
 pub mod Empty
 pub mod GeneratedWhole
 pub mod Generates
+pub mod Touches
+pub mod TouchesRequests
+pub mod TouchesWrites
+pub mod WorkloadAnswers

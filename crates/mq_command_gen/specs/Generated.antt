@@ -1,12 +1,15 @@
 -- What a run of the generated workload on an empty file system leaves.
-use Rattle.std.specs.Prelude.{◌≡◌, ◌<◌, ◌+◌, ◌^◌, ℕ, Bool, true, List, length, None, Some}
+use Rattle.std.specs.Prelude.{◌≡◌, ◌<◌, ◌≤◌, ◌+◌, ℕ, Bool, true, List, length, None, Result, Ok, Err}
 use Rattle.std.specs.List.{All, Contains}
 use Rattle.mq_blocks.specs.Descriptor.{Descriptor}
 use Rattle.mq_blocks.specs.Geometry.{area_of, meta_of, queues_of, zone_size}
 use Rattle.mq_blocks.specs.declared.geometry.Geometry.{Geometry}
+use Rattle.mq_calls.specs.declared.answers.CallCause.TheVariants.{OutOfMemory}
+use Rattle.mq_calls.specs.declared.answers.Refusal.{Refusal}
 use Rattle.mq_image.specs.Drives.{IsDrive}
 use Rattle.mq_image.specs.File.{DriveImage, image_bytes}
 use Rattle.mq_image_run.specs.Runs.{IsRunOf}
+use Rattle.mq_image_run.specs.declared.options.Ending.TheVariants.{Sessions}
 use Rattle.mq_image_run.specs.declared.options.RunOptions.{RunOptions}
 use Rattle.mq_image_run.specs.declared.ran.ImageRun.{ImageRun}
 use Rattle.mq_image_ops.specs.Empty.{IsEmptyDrive}
@@ -83,9 +86,22 @@ pub record IsGenerated (seed threads groups : ℕ) (keeps : Bool) (made : Genera
 
 -- ---- on the way there
 
--- a run on which no command fails, and whose power goes off once all sessions have ended
-abbrev pub to_the_end : RunOptions
-to_the_end = record { cut = Some (2 ^ 63); pick = 0; fail = None }
+-- a run that ends with its sessions, and on which no command fails
+abbrev pub sessions_alone : RunOptions
+sessions_alone = record { ending = Sessions; pick = 0; fail = None }
+
+-- what the answer refuses is refused since memory ran out
+abbrev pub IsForMemory : Result ℕ Refusal → Type 0
+IsForMemory (Ok number) = Unit {0}
+IsForMemory (Err r) = r.cause ≡ OutOfMemory
+
+-- memory ran out for the group
+abbrev pub IsWanting : Result ℕ Refusal → Type 0
+IsWanting answer = (r : Refusal) × (answer ≡ Err r) × (r.cause ≡ OutOfMemory)
+
+-- all that these answers refuse is refused since memory ran out
+abbrev pub AreForMemory : List Told → Type 0
+AreForMemory answers = (t : Told) → Contains answers t → IsForMemory t.answer
 
 -- each group that was answered was answered well
 abbrev pub AreGood : List Told → Type 0
@@ -97,9 +113,22 @@ EndDurable scripts =
     (session group : ℕ) → group + 1 ≡ length (groups_of scripts session)
     → (group_at scripts session group).end ≡ Fsync
 
--- this is a run of the scripts on an empty file system, and each group was answered well
-pub record IsWholeRun (g : Geometry) (scripts : List Script) (r : ImageRun) : Type 0 where
+-- this is a run of the scripts on an empty file system
+pub record IsPlayed (g : Geometry) (scripts : List Script) (r : ImageRun) : Type 0 where
   pub start : DriveImage
   pub empty : IsEmptyDrive g start
-  pub run : IsRunOf start scripts to_the_end r
+  pub run : IsRunOf start scripts sessions_alone r
+
+-- and each group was answered well
+pub record IsWholeRun (g : Geometry) (scripts : List Script) (r : ImageRun) : Type 0 where
+  pub played : IsPlayed g scripts r
   pub good : AreGood r.answers.items
+
+-- Where a group of a workload is refused, memory ran out for it.
+abbrev pub WorkloadsAreRefusedForMemory : Type 0
+WorkloadsAreRefusedForMemory =
+    (seed threads groups : ℕ) (g : Geometry) (r : ImageRun)
+    → threads ≤ 16
+    → IsShape threads g
+    → IsPlayed g (workload_of seed threads groups) r
+    → AreForMemory r.answers.items

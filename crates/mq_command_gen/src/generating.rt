@@ -9,7 +9,8 @@ ghost use Rattle.mq_tree.specs.Counts.{counts_in};
 ghost use Rattle.mq_tree.specs.Volume.{Volume};
 
 use crate::generated::Generated;
-use crate::playing::play;
+use crate::laws::a_workload_is_refused_only_for_memory;
+use crate::playing::{play, settle_all};
 use crate::shape::shape;
 use mq_blocks::OutOfMemory;
 use mq_calls::Gate;
@@ -76,8 +77,10 @@ pub fn generate<R: Threads + Wait + Sync, G: Gate + Sync>(
 {
     let geometry = shape(threads);
     a_run_on_an_image_keeps_its_promise();
+    a_workload_is_refused_only_for_memory();
     let scripts = workload(alloc, seed, threads, groups)?;
     let ran = play(rt, alloc, geometry, &scripts, gate)?;
+    settle_all(&ran.answers)?;
     let commits = newest(&ran.entries);
     let file = file_of(alloc, &ran.image, keeps)?;
     let counts = count(alloc, ran.image)?;

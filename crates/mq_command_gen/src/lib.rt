@@ -4,10 +4,12 @@
 
 mod generated;
 mod generating;
+mod laws;
 mod playing;
 mod shape;
 mod workload;
 
 pub use generated::Generated;
 pub use generating::generate;
+pub use laws::a_workload_is_refused_only_for_memory;
 pub use workload::{Workload, generate_and_save};

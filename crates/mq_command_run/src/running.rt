@@ -9,6 +9,7 @@ ghost use Rattle.mq_image.specs.Drives.{IsDrive, IsRead};
 ghost use Rattle.mq_image.specs.Faults.{HasFault};
 ghost use Rattle.mq_image.specs.File.{DriveImage as Image};
 ghost use Rattle.mq_image.specs.declared.fault.FileFault.{FileFault};
+ghost use Rattle.mq_image_run.specs.Endings.{limit_of};
 ghost use Rattle.mq_image_run.specs.Limits.{AreWithin, IsFirstAbove};
 ghost use Rattle.mq_image_ops.specs.Standing.{HasNoVolume, Reads, StandsFor};
 ghost use Rattle.mq_outside.specs.Outside.{Tells};
@@ -158,7 +159,7 @@ fn run_to_file<R: Threads + Wait + Sync, G: Gate + Sync>(
     gate: &G,
 ) -> Result<RunFile, Result<Answer, OutOfMemory>>
     requires image { IsDrive image }
-    requires cut { ForSome options.cut (λ k. k ≤ 2 ^ 63) }
+    requires cut { ForSome (limit_of options.ending) (λ k. k ≤ 2 ^ 63) }
     requires some { 1 ≤ length scripts.now }
     ensures ok { IfOk result (λ v. IsRunAs image scripts.now options v.file.items v.answer.status
         v.answer.text.items) }
@@ -206,7 +207,7 @@ fn run_or_say<F: Files, K: Sink, R: Threads + Wait + Sync, G: Gate + Sync>(
     out: &mut K,
     gate: &G,
 ) -> u8
-    requires cut { ForSome options.cut (λ k. k ≤ 2 ^ 63) }
+    requires cut { ForSome (limit_of options.ending) (λ k. k ≤ 2 ^ 63) }
     requires scripts { 1 ≤ length scripts.now }
     ensures { (status : ℕ)
         × (text : List ℕ)
@@ -240,7 +241,7 @@ pub fn run<F: Files, K: Sink, R: Threads + Wait + Sync, G: Gate + Sync>(
     out: &mut K,
     gate: &G,
 ) -> u8
-    requires cut { ForSome options.cut (λ k. k ≤ 2 ^ 63) }
+    requires cut { ForSome (limit_of options.ending) (λ k. k ≤ 2 ^ 63) }
     requires scripts { 1 ≤ length scripts.now }
     ensures ends { (status : ℕ)
         × (text : List ℕ)

@@ -1,5 +1,5 @@
 -- What scripts come to on a drive, from its start to the cut of its power.
-use Rattle.std.specs.Prelude.{◌≡◌, ◌≤◌, ◌||◌, ℕ, zero, suc, Bool, false, List, [], ◌∷◌, Contains, Option, Some, None, is_none}
+use Rattle.std.specs.Prelude.{◌≡◌, ◌≤◌, ◌||◌, ℕ, zero, suc, Bool, false, List, [], ◌∷◌, Contains, Option, Some, None}
 use Rattle.mq_blocks.specs.Drive.{FuseName}
 use Rattle.mq_blocks.specs.Totals.{total}
 use Rattle.mq_blocks.specs.declared.geometry.Geometry.{Geometry}
@@ -28,6 +28,7 @@ use Rattle.mq_run.specs.declared.end.RunEnd.{RunEnd}
 use Rattle.mq_script.specs.Scripts.{Script}
 use Rattle.mq_tree.specs.declared.corrupt.CorruptCause.{CorruptCause}
 use Rattle.mq_tree.specs.declared.corrupt.MountRefusal.TheVariants as mount
+use Rattle.mq_image_run.specs.Endings.{finishes}
 use Rattle.mq_image_run.specs.declared.driving.Driven.{Driven}
 use Rattle.mq_image_run.specs.declared.stopping.Stopped.{Stopped}
 use Rattle.mq_image_run.specs.declared.options.RunOptions.{RunOptions}
@@ -60,14 +61,14 @@ events_on ports = total (λ p. happened_in (emu_state p) (emu_faults p)) ports
 abbrev pub emu_ghosts : Ghosts EmuPort
 emu_ghosts = ghosts
 
--- The scripts were run over these ports and over what stands on them; without a cut the run ended with a
--- checkpoint. The ports that came back are those of the drive still, each with its fuse and its failing
+-- The scripts were run over these ports and over what stands on them; the run ended with a checkpoint where
+-- one was asked for. The ports that came back are those of the drive still, each with its fuse and its failing
 -- command. Then the power of all of them was cut with the pick that was asked for, and their seats came
 -- back.
 pub record HasDriven (g : Geometry) (ports : Ports EmuPort) (standing : Standing)
     (scripts : List Script) (o : RunOptions) (d : Driven) (seats : List FuseSeat) : Type 0 where
   pub end : RunEnd EmuPort
-  pub ran : HasRunScripts emu_ghosts emu_state emu_faults g ports standing scripts (is_none o.cut) end
+  pub ran : HasRunScripts emu_ghosts emu_state emu_faults g ports standing scripts (finishes o.ending) end
   pub same_ports : ArePorts g (drive_of emu_state end.ports)
   pub bounds : AreBoundsKept g (drive_of emu_state ports) (drive_of emu_state end.ports)
   pub entries : d.entries ≡ end.entries

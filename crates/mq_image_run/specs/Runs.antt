@@ -15,7 +15,10 @@ use Rattle.mq_script.specs.Scripts.{Script}
 use Rattle.mq_queue_side.specs.declared.answers.Cause.{Cause}
 use Rattle.mq_queue_side.specs.declared.answers.Cause.TheVariants as cause
 use Rattle.mq_image_run.specs.Drives.{HasStopped}
+use Rattle.mq_image_run.specs.Endings.{limit_of}
 use Rattle.mq_image_run.specs.Limits.{AreWithin}
+use Rattle.mq_image_run.specs.declared.options.Ending.{Ending}
+use Rattle.mq_image_run.specs.declared.options.Ending.TheVariants as ending
 use Rattle.mq_image_run.specs.declared.options.RunOptions.{RunOptions}
 use Rattle.mq_image_run.specs.declared.ran.ImageRun.{ImageRun}
 use Rattle.mq_image_run.specs.declared.stopping.Stopped.{Stopped}
@@ -36,21 +39,22 @@ IsStop (cause.Failed tx status) last = last ≡ StoppedTx tx
 IsStop (cause.FailedHome block status) last = last ≡ StoppedBlock block
 IsStop (cause.Stopped tx why) last = last ≡ StoppedTx tx
 
--- With a cut the last line gives how many events happened. Else it reports what the checkpoint at the end
--- came to: the number up to which all stands at home, or what stopped it.
-abbrev pub IsLast : (cut : Option ℕ) → (events : ℕ) → Option (Result ℕ CheckpointRefusal) → Last → Type 0
-IsLast (Some k) events finished last = last ≡ Cut events
-IsLast None events (Some (Ok n)) last = last ≡ Clean n
-IsLast None events (Some (Err (checkpoint.Drive why))) last = IsStop why last
-IsLast None events (Some (Err checkpoint.OutOfMemory)) last = ⊥
-IsLast None events None last = ⊥
+-- With a checkpoint at the end the last line reports what that came to: the number up to which all stands at
+-- home, or what stopped it. Else it gives how many events were counted.
+abbrev pub IsLast : Ending → (events : ℕ) → Option (Result ℕ CheckpointRefusal) → Last → Type 0
+IsLast (ending.Cut k) events finished last = last ≡ Cut events
+IsLast ending.Sessions events finished last = last ≡ Cut events
+IsLast ending.Checkpoint events (Some (Ok n)) last = last ≡ Clean n
+IsLast ending.Checkpoint events (Some (Err (checkpoint.Drive why))) last = IsStop why last
+IsLast ending.Checkpoint events (Some (Err checkpoint.OutOfMemory)) last = ⊥
+IsLast ending.Checkpoint events None last = ⊥
 
 -- ---- the whole
 
 -- Groups and requests of the scripts can be counted in 32 bits. The image was recovered, whole, and is
 -- within the limits of a run. The scripts were run on the drive that started from what this left, and the
--- image is what the cut of its power at the end left; it fits its file. Without a cut, and where the
--- failing command was not executed, the run ended clean.
+-- image is what the cut of its power at the end left; it fits its file. With a checkpoint at the end, and
+-- where the failing command was not executed, the run ended clean.
 pub record IsRunOf (x : DriveImage) (scripts : List Script) (o : RunOptions) (r : ImageRun) : Type 0 where
   pub short : All (λ script. IsShort script.groups) scripts
   pub recovered : RecoveredImage
@@ -58,14 +62,14 @@ pub record IsRunOf (x : DriveImage) (scripts : List Script) (o : RunOptions) (r 
   pub within : AreWithin x recovered.found.base
   pub base_is : r.base ≡ recovered.found.base
   pub fuse : FuseName
-  pub power : fuse.limit ≡ o.cut
+  pub power : fuse.limit ≡ limit_of o.ending
   pub stopped : Stopped
   pub stops : HasStopped fuse recovered.image scripts o stopped
   pub entries : r.entries ≡ stopped.driven.entries
   pub answers : r.answers ≡ stopped.driven.answers
   pub failed : r.failed ≡ stopped.driven.failed
-  pub last : IsLast o.cut stopped.events stopped.driven.finished r.last
-  pub ended : o.cut ≡ None → r.failed ≡ false → (n : ℕ) × (r.last ≡ Clean n)
+  pub last : IsLast o.ending stopped.events stopped.driven.finished r.last
+  pub ended : o.ending ≡ ending.Checkpoint → r.failed ≡ false → (n : ℕ) × (r.last ≡ Clean n)
   pub geometry : r.image.geometry ≡ x.geometry
   pub ports : r.image.ports ≡ stopped.driven.images.items
   pub drive : IsDrive r.image

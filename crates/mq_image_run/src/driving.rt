@@ -74,7 +74,7 @@ fn run_ports<R: Threads + Wait + Sync, G: Gate + Sync>(
     requires short { All (λ s. IsShort s.groups) scripts.now }
     ensures { IfOk result (λ r. HasDriven geometry ports.entry standing scripts.now options r.0 r.1.items) }
 {
-    let finish = options.cut.is_none();
+    let finish = options.ending.finishes();
     let end = match run_scripts(rt, alloc, geometry, ports, standing, scripts, finish, gate) {
         Ok(end) => end,
         Err((_, full)) => return Err(full),

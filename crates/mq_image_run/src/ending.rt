@@ -1,8 +1,11 @@
 // How a run ended.
-ghost use Rattle.std.specs.Prelude.{◌≡◌, IfOk, None, is_none};
+ghost use Rattle.std.specs.Prelude.{◌≡◌, IfOk};
+ghost use Rattle.mq_image_run.specs.Endings.{finishes};
 ghost use Rattle.mq_image_run.specs.Runs.{IsLast, IsPowerOff, IsStop, StoppedByPower};
+ghost use Rattle.mq_image_run.specs.declared.options.Ending.TheVariants as ends;
 ghost use Rattle.mq_run.specs.Ending.{IsAskedFor};
 
+use crate::options::Ending;
 use mq_blocks::{OutOfMemory, TxNo};
 use mq_checkpoint::CheckpointRefusal;
 use mq_queue_side::Cause;
@@ -20,18 +23,18 @@ fn stop_of(cause: Cause) -> Last
     }
 }
 
-/// How a run ended: by whether its power had to go off, by the number of events that happened, and by the
-/// result of the checkpoint at the end. If the power did not have to go off, it stayed on.
+/// How a run ended: by how it had to end, by the number of events that were counted, and by the result of the
+/// checkpoint at the end. If a checkpoint had to be made, the power stayed on.
 pub fn last_of(
-    cut: Option<u64>,
+    ending: Ending,
     events: u64,
     finished: Option<Result<TxNo, CheckpointRefusal>>,
 ) -> Result<Last, OutOfMemory>
-    requires asked { IsAskedFor (is_none cut) finished }
-    requires power { cut ≡ None → StoppedByPower finished → ⊥ }
-    ensures { IfOk result (IsLast cut events finished) }
+    requires asked { IsAskedFor (finishes ending) finished }
+    requires power { ending ≡ ends.Checkpoint → StoppedByPower finished → ⊥ }
+    ensures { IfOk result (IsLast ending events finished) }
 {
-    if cut.is_some() {
+    if !ending.finishes() {
         return Ok(Last::Cut(events));
     }
     match finished {

@@ -9,6 +9,6 @@ mod ran;
 mod running;
 mod stopping;
 
-pub use options::RunOptions;
+pub use options::{Ending, RunOptions};
 pub use ran::ImageRun;
 pub use running::run_image;

@@ -4,6 +4,7 @@ ghost use Rattle.std.specs.List.{All};
 ghost use Rattle.std.specs.Option.{ForSome};
 ghost use Rattle.mq_blocks.specs.Geometry.{queues_of};
 ghost use Rattle.mq_image.specs.Drives.{IsDrive};
+ghost use Rattle.mq_image_run.specs.Endings.{limit_of};
 ghost use Rattle.mq_image_run.specs.Limits.{AreWithin};
 ghost use Rattle.mq_image_run.specs.Refusals.{RefusesRun};
 ghost use Rattle.mq_image_run.specs.Runs.{IsRunOf};
@@ -66,7 +67,7 @@ fn run_countable<R: Threads + Wait + Sync, G: Gate + Sync>(
     gate: &G,
 ) -> Result<ImageRun, StandingRefusal>
     requires image { IsDrive image }
-    requires cut { ForSome options.cut (λ k. k ≤ 2 ^ 63) }
+    requires cut { ForSome (limit_of options.ending) (λ k. k ≤ 2 ^ 63) }
     requires scripts { (1 ≤ length scripts.now) × (length scripts.now ≤ queues_of image.geometry) }
     requires short { All (λ s. IsShort s.groups) scripts.now }
     ensures ok { IfOk result (IsRunOf image scripts.now options) }
@@ -76,11 +77,11 @@ fn run_countable<R: Threads + Wait + Sync, G: Gate + Sync>(
     let recovered = recover_within(alloc, image, options.pick)?;
     let base = base_of(&recovered);
     a_recovered_image_holds_what_stood();
-    let (fuse, seats) = drive_power(alloc, geometry, options.cut)?;
+    let (fuse, seats) = drive_power(alloc, geometry, options.ending.limit())?;
     let stopped = run_to_stop(rt, alloc, fuse, seats, recovered, scripts, options, gate)?;
     a_stopped_run_is_backed::<EmuPort<'_>>();
     let driven = stopped.driven;
-    let last = last_of(options.cut, stopped.events, driven.finished)?;
+    let last = last_of(options.ending, stopped.events, driven.finished)?;
     let left = DriveImage {
         geometry,
         ports: driven.images,
@@ -98,8 +99,8 @@ fn run_countable<R: Threads + Wait + Sync, G: Gate + Sync>(
 
 /// Recovers the drive that starts from an image, and runs scripts over the volume that stands there, each
 /// on a session and a thread of its own. Power and failing command are those of the drive after the
-/// recovery. Without a cut the run ends with a checkpoint. Then the power of the drive is cut, and what
-/// that leaves is the new image.
+/// recovery. Once the run has ended as it is asked to, the power of the drive is cut, and what that leaves
+/// is the new image.
 pub fn run_image<R: Threads + Wait + Sync, G: Gate + Sync>(
     rt: &R,
     alloc: Global,
@@ -109,7 +110,7 @@ pub fn run_image<R: Threads + Wait + Sync, G: Gate + Sync>(
     gate: &G,
 ) -> Result<ImageRun, StandingRefusal>
     requires image { IsDrive image }
-    requires cut { ForSome options.cut (λ k. k ≤ 2 ^ 63) }
+    requires cut { ForSome (limit_of options.ending) (λ k. k ≤ 2 ^ 63) }
     requires scripts { (1 ≤ length scripts.now) × (length scripts.now ≤ queues_of image.geometry) }
     ensures ok { IfOk result (IsRunOf image scripts.now options) }
     ensures refused { IfErr result (RefusesRun image) }

@@ -1,6 +1,6 @@
 -- What refusals for a drive's cause say of a run on an image, by the faults that its ports have gained.
 use Rattle.std.proofs.Common.{◌≡◌, ◌⊎◌, ◌∙◌, ℕ, zero, suc, ◌+◌, ◌-◌, ◌<◌, ◌≤◌, ◌^◌, ◌++◌, Bool, false, true, List, [], ◌∷◌, length, map, Option, Some, None, replicate, inl, inr, refl, sym, ap, subst, arith}
-use Rattle.std.specs.Prelude.{Err, Ok, Result, if◌then◌else◌, is_none, nat_eq, slice_get, slice_index_or}
+use Rattle.std.specs.Prelude.{Err, Ok, Result, if◌then◌else◌, nat_eq, slice_get, slice_index_or}
 use Rattle.std.specs.List.{Contains}
 use Rattle.std.proofs.lemmas.Bool.{eqb-true, or_left, or_right, true≢false}
 use Rattle.std.proofs.lemmas.List.{length-map}
@@ -25,6 +25,9 @@ use Rattle.mq_drive.specs.declared.role.Role.TheVariants as role
 use Rattle.mq_image.specs.File.{DriveImage, queue_ports, root_port}
 use Rattle.mq_image_run.specs.Drives.{emu_ghosts, has_failed}
 use Rattle.mq_image_run.specs.Runs.{IsLast, IsRunOf, IsStop}
+use Rattle.mq_image_run.specs.Endings.{finishes, limit_of}
+use Rattle.mq_image_run.specs.declared.options.Ending.{Ending}
+use Rattle.mq_image_run.specs.declared.options.Ending.TheVariants as ending
 use Rattle.mq_image_run.specs.declared.options.RunOptions.{RunOptions}
 use Rattle.mq_image_run.specs.declared.ran.ImageRun.{ImageRun}
 use Rattle.mq_image_run.proofs.RunsPowered.{behind-none}
@@ -155,7 +158,7 @@ starts-hold Q g fuse fail each none from [] q = none
 starts-hold Q g fuse fail each none from (i ∷ images) zero = each from
 starts-hold Q g fuse fail each none from (i ∷ images) (suc q) = starts-hold Q g fuse fail each none (from + 1) images q
 
-last-cut : (k events : ℕ) (finished : Option (Result ℕ CheckpointRefusal)) (last : Last) → IsLast (Some k) events finished last → events ≡ k → last ≡ Cut k
+last-cut : (k events : ℕ) (finished : Option (Result ℕ CheckpointRefusal)) (last : Last) → IsLast (ending.Cut k) events finished last → events ≡ k → last ≡ Cut k
 last-cut k events finished last is many = is ∙ ap (λ (n : ℕ). Cut n) many
 
 -- the command that is to fail is on the port that was asked for
@@ -200,7 +203,7 @@ module _ (x : DriveImage) (scripts : List Script) (o : RunOptions) (r : ImageRun
   abbrev new : Ports EmuPort
   new = end.ports
 
-  abbrev ran : HasRunScripts emu_ghosts emu_state emu_faults g old (saved.standing x scripts o r run bytes) scripts (is_none o.cut) end
+  abbrev ran : HasRunScripts emu_ghosts emu_state emu_faults g old (saved.standing x scripts o r run bytes) scripts (finishes o.ending) end
   ran = saved.ran x scripts o r run bytes
 
   same : run.recovered.image.geometry ≡ g
@@ -234,7 +237,7 @@ module _ (x : DriveImage) (scripts : List Script) (o : RunOptions) (r : ImageRun
       subst (λ (p : EmuPort). Q (emu_state p).fuse (emu_state p).fail) (sym under) (subst (λ (z : FuseName × Option ℕ). Q z.0 z.1) (λ i. (sym kept.fuse i, sym kept.fail i)) began)
 
   -- without a cut the power of no port was off
-  on-always : o.cut ≡ None → (t : Turn) (p : EmuPort) → IsUnder new t p → offs_of p ≡ 0
+  on-always : limit_of o.ending ≡ None → (t : Turn) (p : EmuPort) → IsUnder new t p → offs_of p ≡ 0
   on-always no_cut t p under = never-off p (bound-at (λ f n. f.limit ≡ None) (λ k. run.power ∙ no_cut) refl t p under)
 
   -- ---- the port that is behind a refusal
@@ -247,20 +250,20 @@ module _ (x : DriveImage) (scripts : List Script) (o : RunOptions) (r : ImageRun
   backed : (t : Told) (f : Refusal) (cause : Cause) → Contains r.answers.items t → t.answer ≡ Err f → f.cause ≡ Drive cause → BackedBy cause
   backed t f cause c bad is =
       let told : Contains end.answers.items t = subst (λ ts. Contains ts.items t) (sym (saved.answers-are x scripts o r run bytes)) c in
-      let h = is-charged emu_ghosts emu_state emu_faults g old (saved.standing x scripts o r run bytes) scripts (is_none o.cut) end ran run.short t f cause told bad is in
+      let h = is-charged emu_ghosts emu_state emu_faults g old (saved.standing x scripts o r run bytes) scripts (finishes o.ending) end ran run.short t f cause told bad is in
       record {
         turn = h.0;
         charged = h.1;
-        backs_it = backs g cause h.0 (faults_on emu_faults old) new (charge-backed emu_ghosts emu_state emu_faults g old (saved.standing x scripts o r run bytes) scripts (is_none o.cut) end ran run.short h.0 cause h.1);
+        backs_it = backs g cause h.0 (faults_on emu_faults old) new (charge-backed emu_ghosts emu_state emu_faults g old (saved.standing x scripts o r run bytes) scripts (finishes o.ending) end ran run.short h.0 cause h.1);
       }
 
   backed-stop : (why : Cause) → end.finished ≡ Some (Err (checkpoint.Drive why)) → BackedBy why
   backed-stop why is =
-      let h = stop-reported emu_ghosts emu_state emu_faults g old (saved.standing x scripts o r run bytes) scripts (is_none o.cut) end why ran is in
+      let h = stop-reported emu_ghosts emu_state emu_faults g old (saved.standing x scripts o r run bytes) scripts (finishes o.ending) end why ran is in
       record {
         turn = h.0;
         charged = h.1;
-        backs_it = backs g why h.0 (faults_on emu_faults old) new (charge-backed emu_ghosts emu_state emu_faults g old (saved.standing x scripts o r run bytes) scripts (is_none o.cut) end ran run.short h.0 why h.1);
+        backs_it = backs g why h.0 (faults_on emu_faults old) new (charge-backed emu_ghosts emu_state emu_faults g old (saved.standing x scripts o r run bytes) scripts (finishes o.ending) end ran run.short h.0 why h.1);
       }
 
   -- ---- the power
@@ -288,22 +291,23 @@ module _ (x : DriveImage) (scripts : List Script) (o : RunOptions) (r : ImageRun
       let b = backed t f cause c bad is in
       off-of cause b.turn b.backs_it (of-power cause b.turn b.backs_it of b.backs_it.stands)
 
-  none-refused : o.cut ≡ None → HasRefusedEvent → ⊥
+  none-refused : limit_of o.ending ≡ None → HasRefusedEvent → ⊥
   none-refused no_cut h = (let at = row-under new h.port h.own in not-off h.port.device.value.power.offs h.port.device.value.failure (on-always no_cut at.0 h.port at.1) h.off)
 
   -- a port refuses one after all events of the cut have happened
   powered-by : HasRefusedEvent → IsPoweredOff o r
-  powered-by h = by o.cut refl
+  powered-by h = by o.ending refl
     where
-      by : (cut : Option ℕ) → o.cut ≡ cut → IsPoweredOff o r
-      by None no_cut = absurd (none-refused no_cut h)
-      by (Some k) cut = (k, cut, last-cut k run.stopped.events run.stopped.driven.finished r.last (subst (λ (z : Option ℕ). IsLast z run.stopped.events run.stopped.driven.finished r.last) cut run.last) (run.stops.off k h.port (run.power ∙ cut) h.own h.off))
+      by : (e : Ending) → o.ending ≡ e → IsPoweredOff o r
+      by ending.Checkpoint asked = absurd (none-refused (ap limit_of asked) h)
+      by ending.Sessions asked = absurd (none-refused (ap limit_of asked) h)
+      by (ending.Cut k) cut = (k, cut, last-cut k run.stopped.events run.stopped.driven.finished r.last (subst (λ (z : Ending). IsLast z run.stopped.events run.stopped.driven.finished r.last) cut run.last) (run.stops.off k h.port (run.power ∙ ap limit_of cut) h.own h.off))
 
   -- where a port has counted all its faults, its power was off
   refused-by : HaveCountedAll (row_of new) → HasRefusedEvent
   refused-by (p, own, many) = record { port = p; own = own; off = off-among p (full-off p many) }
 
-  none-full : o.cut ≡ None → HaveCountedAll (row_of new) → ⊥
+  none-full : limit_of o.ending ≡ None → HaveCountedAll (row_of new) → ⊥
   none-full no_cut h = none-refused no_cut (refused-by h)
 
   full : (t : Turn) (p : EmuPort) → IsUnder new t p → 2 ^ 64 - 1 ≤ length (emu_faults p) → HaveCountedAll (row_of new)
@@ -388,13 +392,13 @@ module _ (x : DriveImage) (scripts : List Script) (o : RunOptions) (r : ImageRun
   -- so it is of the transaction that a refusal names, which is a commit of the port's queue
   tx-failed : (cause : Cause) (tx : ℕ) (t : Turn) (p : EmuPort) → IsUnder new t p → Contains (charged_of ran.ends.left) (charge_for t cause) → IsOfCommand cause tx → HasFailedTx o r (row_of new) tx
   tx-failed cause tx (Page b) p under c of = absurd under
-  tx-failed cause tx Root p under c of = absurd (never-root cause tx of (of-root emu_ghosts emu_state emu_faults (λ p. refl) g old (saved.standing x scripts o r run bytes) scripts (is_none o.cut) end ran cause c))
+  tx-failed cause tx Root p under c of = absurd (never-root cause tx of (of-root emu_ghosts emu_state emu_faults (λ p. refl) g old (saved.standing x scripts o r run bytes) scripts (finishes o.ending) end ran cause c))
   tx-failed cause tx (Side q) p under c of =
-      let shown = failed-shown emu_ghosts emu_state emu_faults (λ p. refl) g old (saved.standing x scripts o r run bytes) scripts (is_none o.cut) end ran q cause tx c of in
+      let shown = failed-shown emu_ghosts emu_state emu_faults (λ p. refl) g old (saved.standing x scripts o r run bytes) scripts (finishes o.ending) end ran q cause tx c of in
       let own : HasTx tx (emu_state p).failed = subst (λ (s : PortState). HasTx tx s.failed) (state-at q p under).1 shown in
       let f = failed-command tx p.device.value.failure own in
       let h = error-on (Side q) p f.0 (CommandError tx 640) under f.1 f.2 in
-      let is = commit-of emu_ghosts emu_state emu_faults (λ p. refl) g old (saved.standing x scripts o r run bytes) scripts (is_none o.cut) end ran run.short q cause tx c (names-tx cause tx of) in
+      let is = commit-of emu_ghosts emu_state emu_faults (λ p. refl) g old (saved.standing x scripts o r run bytes) scripts (finishes o.ending) end ran run.short q cause tx c (names-tx cause tx of) in
       let told : IsQueueCommit r.entries.items tx q = subst (λ es. IsQueueCommit es.items tx q) (saved.entries-are x scripts o r run bytes) is in
       record { failed = h.0; commit = subst (IsQueueCommit r.entries.items tx) (sym h.1) told }
 
@@ -445,7 +449,7 @@ module _ (x : DriveImage) (scripts : List Script) (o : RunOptions) (r : ImageRun
     -- the transaction that a refusal names is undone
     undone-by : (cause : Cause) (n : ℕ) → NamesTransaction cause n → (IsOfRoot (report_of cause) → ⊥) → BackedBy cause → IsUndone g r.entries.items reached n
     undone-by cause n named never b =
-        let u = named-undone emu_ghosts emu_state emu_faults (λ p. refl) g old (saved.standing x scripts o r run bytes) scripts (is_none o.cut) end ran run.short cause n named never b.turn b.charged (queue_ports r.image) (root_port r.image) cut.ds cut.top (saved.images x scripts o r run bytes) read in
+        let u = named-undone emu_ghosts emu_state emu_faults (λ p. refl) g old (saved.standing x scripts o r run bytes) scripts (finishes o.ending) end ran run.short cause n named never b.turn b.charged (queue_ports r.image) (root_port r.image) cut.ds cut.top (saved.images x scripts o r run bytes) read in
         subst (λ (z : ℕ). IsUndone g r.entries.items z n) (sym cut.reaches) (subst (λ es. IsUndone g es.items ((root_port r.image).base + length cut.ds) n) (saved.entries-are x scripts o r run bytes) u)
 
     port-cause : (cause : Cause) → BackedBy cause → IsPortCause g r.entries.items reached cause
@@ -462,7 +466,7 @@ module _ (x : DriveImage) (scripts : List Script) (o : RunOptions) (r : ImageRun
     abbrev Holds : Last → Type 0
     Holds last = IsStopOf g o r (row_of new) reached last
 
-    stop-holds : o.cut ≡ None → (cause : Cause) → BackedBy cause → (last : Last) → IsStop cause last → Holds last
+    stop-holds : limit_of o.ending ≡ None → (cause : Cause) → BackedBy cause → (last : Last) → IsStop cause last → Holds last
     stop-holds no_cut Off b last stop = absurd stop
     stop-holds no_cut (Failed tx status) b last stop =
         subst Holds (sym stop) (undone-by (Failed tx status) tx refl (λ no. no) b, tx-failed (Failed tx status) tx b.turn b.backs_it.port b.backs_it.under b.charged refl)
@@ -475,12 +479,13 @@ module _ (x : DriveImage) (scripts : List Script) (o : RunOptions) (r : ImageRun
     stop-holds no_cut (Stopped tx (why.Status status)) b last stop =
         subst Holds (sym stop) (undone-by (Stopped tx (why.Status status)) tx refl (λ no. no) b, tx-failed (Stopped tx (why.Status status)) tx b.turn b.backs_it.port b.backs_it.under b.charged refl)
 
-    stopped-by : (cut : Option ℕ) (events : ℕ) (finished : Option (Result ℕ CheckpointRefusal)) (last : Last) → o.cut ≡ cut → end.finished ≡ finished → IsLast cut events finished last → Holds last
-    stopped-by (Some k) events finished last cut is told = subst Holds (sym told) tt
-    stopped-by None events (Some (Ok n)) last cut is told = subst Holds (sym told) tt
-    stopped-by None events (Some (Err (checkpoint.Drive why))) last cut is told = stop-holds cut why (backed-stop why is) last told
-    stopped-by None events (Some (Err checkpoint.OutOfMemory)) last cut is told = absurd told
-    stopped-by None events None last cut is told = absurd told
+    stopped-by : (e : Ending) (events : ℕ) (finished : Option (Result ℕ CheckpointRefusal)) (last : Last) → o.ending ≡ e → end.finished ≡ finished → IsLast e events finished last → Holds last
+    stopped-by (ending.Cut k) events finished last asked is told = subst Holds (sym told) tt
+    stopped-by ending.Sessions events finished last asked is told = subst Holds (sym told) tt
+    stopped-by ending.Checkpoint events (Some (Ok n)) last asked is told = subst Holds (sym told) tt
+    stopped-by ending.Checkpoint events (Some (Err (checkpoint.Drive why))) last asked is told = stop-holds (ap limit_of asked) why (backed-stop why is) last told
+    stopped-by ending.Checkpoint events (Some (Err checkpoint.OutOfMemory)) last asked is told = absurd told
+    stopped-by ending.Checkpoint events None last asked is told = absurd told
 
     pub is-stop : IsStopOf g o r (row_of new) reached r.last
-    is-stop = stopped-by o.cut run.stopped.events end.finished r.last refl refl (subst (λ f. IsLast o.cut run.stopped.events f r.last) (saved.end-finished x scripts o r run bytes) run.last)
+    is-stop = stopped-by o.ending run.stopped.events end.finished r.last refl refl (subst (λ f. IsLast o.ending run.stopped.events f r.last) (saved.end-finished x scripts o r run bytes) run.last)

@@ -17,6 +17,7 @@ use Rattle.mq_history.specs.Legal.{newest}
 use Rattle.mq_history.proofs.LegalFacts.{count-once}
 use Rattle.mq_image.specs.File.{DriveImage}
 use Rattle.mq_image_ops.specs.Views.{view_of}
+use Rattle.mq_image_run.specs.Endings.{limit_of}
 use Rattle.mq_image_run.specs.declared.options.RunOptions.{RunOptions}
 use Rattle.mq_image_run.specs.declared.ran.ImageRun.{ImageRun}
 use Rattle.mq_queue_side.specs.declared.answers.Cause.{Cause}
@@ -58,31 +59,36 @@ none-drawn end (Changes index) (Some n) of late = absurd (late n refl)
 none-drawn end OutOfMemory (Some n) of late = absurd of
 none-drawn end (Drive cause) (Some n) of late = absurd of
 
-module _ (x : DriveImage) (scripts : List Script) (o : RunOptions) (r : ImageRun) (v : Volume) (reached : ℕ) (ports : List EmuPort) (no_cut : o.cut ≡ None) (none : o.fail ≡ None) (wanted : HaveWanted r.answers.items → ⊥)
-    (answered : AreAnswered scripts r.entries.items r.answers.items) (caused : AreCaused x.geometry scripts v r.base r.entries.items reached r.answers.items) (backed : AreBacked x.geometry o r ports) where
-  abbrev g : Geometry
-  g = x.geometry
+-- ---- no drive's cause
 
+module _ (g : Geometry) (o : RunOptions) (r : ImageRun) (ports : List EmuPort) (powered : limit_of o.ending ≡ None) (none : o.fail ≡ None) (backed : AreBacked g o r ports) where
   never-off : IsPoweredOff o r → ⊥
-  never-off off = (let both : Some off.0 ≡ None = sym off.1 ∙ no_cut in absurd (cc))
+  never-off off = (let both : Some off.0 ≡ None = sym (ap limit_of off.1) ∙ powered in absurd (cc))
 
   never-failed : (error : PortFault) → HasFailed o r ports error → ⊥
   never-failed error h = (let both : Some h.command ≡ None = sym h.asked ∙ none in absurd (cc))
 
-  -- no group is refused for a drive's cause
-  never-drive : (t : Told) (f : Refusal) (cause : Cause) → Contains r.answers.items t → t.answer ≡ Err f → f.cause ≡ Drive cause → ⊥
+  -- where the power stays on and no command is to fail, no group is refused for one
+  pub never-drive : (t : Told) (f : Refusal) (cause : Cause) → Contains r.answers.items t → t.answer ≡ Err f → f.cause ≡ Drive cause → ⊥
   never-drive t f Off c bad is = never-off (backed.power t Off c (f, bad, is) tt)
   never-drive t f (Stopped tx why.Off) c bad is = never-off (backed.power t (Stopped tx why.Off) c (f, bad, is) tt)
   never-drive t f (Failed tx status) c bad is = (let h = backed.command t (Failed tx status) tx c (f, bad, is) refl in never-failed _ h.failed)
   never-drive t f (Stopped tx (why.Status status)) c bad is = (let h = backed.command t (Stopped tx (why.Status status)) tx c (f, bad, is) refl in never-failed _ h.failed)
   never-drive t f (FailedHome block status) c bad is = elim (backed.home t block status c (f, bad, is)) [ inl h ↦ never-failed _ h | inr u ↦ never-off u.power ]
 
+-- ---- a run that is complete
+
+module _ (x : DriveImage) (scripts : List Script) (o : RunOptions) (r : ImageRun) (v : Volume) (reached : ℕ) (ports : List EmuPort) (powered : limit_of o.ending ≡ None) (none : o.fail ≡ None) (wanted : HaveWanted r.answers.items → ⊥)
+    (answered : AreAnswered scripts r.entries.items r.answers.items) (caused : AreCaused x.geometry scripts v r.base r.entries.items reached r.answers.items) (backed : AreBacked x.geometry o r ports) where
+  abbrev g : Geometry
+  g = x.geometry
+
   -- so each is refused for a cause of its own
   of-group : (t : Told) (f : Refusal) (cause : CallCause) → Contains r.answers.items t → t.answer ≡ Err f → f.cause ≡ cause → IsOfGroup cause
   of-group t f OutOfMemory c bad is = wanted (t, c, f, bad, is)
   of-group t f (TooLarge count limit) c bad is = tt
   of-group t f (Changes index) c bad is = tt
-  of-group t f (Drive cause) c bad is = never-drive t f cause c bad is
+  of-group t f (Drive cause) c bad is = never-drive g o r ports powered none backed t f cause c bad is
 
   settled-by : (t : Told) (answer : Result ℕ Refusal) → Contains r.answers.items t → t.answer ≡ answer → IsSettled answer
   settled-by t (Ok number) c is = tt

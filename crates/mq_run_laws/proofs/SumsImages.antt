@@ -1,6 +1,5 @@
 -- The refusals of a run on an image charge each a fault of its own.
 use Rattle.std.proofs.Common.{◌≡◌, ◌⊎◌, ℕ, ◌-◌, ◌≤◌, ◌^◌, Bool, List, [], length, inl, inr, refl, sym, subst, arith}
-use Rattle.std.specs.Prelude.{is_none}
 use Rattle.mq_drive.specs.Emu.{emu_faults, emu_state}
 use Rattle.mq_drive.specs.Steps.{PortFault}
 use Rattle.mq_drive.specs.declared.emu.EmuPort.{EmuPort}
@@ -10,6 +9,7 @@ use Rattle.mq_image.specs.File.{DriveImage}
 use Rattle.mq_image_ops.specs.Cuts.{row_of}
 use Rattle.mq_image_run.specs.Drives.{emu_ghosts}
 use Rattle.mq_image_run.specs.Runs.{IsRunOf}
+use Rattle.mq_image_run.specs.Endings.{finishes}
 use Rattle.mq_image_run.specs.declared.options.RunOptions.{RunOptions}
 use Rattle.mq_image_run.specs.declared.ran.ImageRun.{ImageRun}
 use Rattle.mq_recover.specs.Drives.{faults_on}
@@ -37,7 +37,7 @@ module _ (x : DriveImage) (scripts : List Script) (o : RunOptions) (r : ImageRun
   pub is-charged-once : IsChargedOnce x scripts o r run f
   is-charged-once =
       let told : HasCountedAll (faults_on emu_faults new) ⊎ IsSum x.geometry f (saved.end x scripts o r run bytes).answers.items (saved.end x scripts o r run bytes).finished (faults_on emu_faults run.stops.drives.ports) (faults_on emu_faults new) =
-      charged-once emu_ghosts emu_state emu_faults x.geometry run.stops.drives.ports (saved.standing x scripts o r run bytes) scripts (is_none o.cut) (saved.end x scripts o r run bytes) (saved.ran x scripts o r run bytes) run.short f in
+      charged-once emu_ghosts emu_state emu_faults x.geometry run.stops.drives.ports (saved.standing x scripts o r run bytes) scripts (finishes o.ending) (saved.end x scripts o r run bytes) (saved.ran x scripts o r run bytes) run.short f in
       elim told [
         | inl all ↦ inl (none-more all)
         | inr sum ↦ inr (subst (λ fin. IsSum x.geometry f r.answers.items fin (faults_on emu_faults run.stops.drives.ports) (faults_on emu_faults new)) (sym (saved.end-finished x scripts o r run bytes))

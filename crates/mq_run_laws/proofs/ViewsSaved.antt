@@ -1,6 +1,6 @@
 -- What a run of scripts on an image leaves.
 use Rattle.std.proofs.Common.{◌≡◌, ◌<◌, ◌∙◌, ℕ, List, Option, None, Some, sym, ap, subst}
-use Rattle.std.specs.Prelude.{Err, Ok, Result, is_none}
+use Rattle.std.specs.Prelude.{Err, Ok, Result}
 use Rattle.mq_blocks.specs.Journal.{Shown, shown}
 use Rattle.mq_blocks.specs.Geometry.{queues_of}
 use Rattle.mq_blocks.specs.declared.geometry.Geometry.{Geometry}
@@ -15,6 +15,9 @@ use Rattle.mq_image.specs.File.{DriveImage, image_bytes, queue_ports, root_port}
 use Rattle.mq_image.proofs.FileForms.{formed-drive, formed-good}
 use Rattle.mq_image_run.specs.Drives.{HasDriven, emu_ghosts}
 use Rattle.mq_image_run.specs.Runs.{IsLast, IsRunOf}
+use Rattle.mq_image_run.specs.Endings.{finishes}
+use Rattle.mq_image_run.specs.declared.options.Ending.{Ending}
+use Rattle.mq_image_run.specs.declared.options.Ending.TheVariants as ending
 use Rattle.mq_image_run.specs.declared.options.RunOptions.{RunOptions}
 use Rattle.mq_image_run.specs.declared.ran.ImageRun.{ImageRun}
 use Rattle.mq_image_ops.specs.Cuts.{with_ports}
@@ -50,15 +53,16 @@ use Rattle.mq_run_laws.proofs.HistoriesRung.{is-rung}
 use Rattle.mq_run_laws.proofs.RunsWhole.{legal}
 
 -- a run is reported as clean only where the checkpoint at the end answered this number
-told-clean : (cut : Option ℕ) (events : ℕ) (finished : Option (Result ℕ CheckpointRefusal)) (last : Last) (n : ℕ) → IsLast cut events finished last → last ≡ Clean n → finished ≡ Some (Ok n)
-told-clean (Some k) events finished last n is told = absurd (cc)
-told-clean None events (Some (Ok m)) last n is told = let same : Clean m ≡ Clean n = sym is ∙ told in cc
-told-clean None events (Some (Err (checkpoint.Drive cause.Off))) last n is told = absurd is
-told-clean None events (Some (Err (checkpoint.Drive (cause.Failed tx status)))) last n is told = absurd (cc)
-told-clean None events (Some (Err (checkpoint.Drive (cause.FailedHome block status)))) last n is told = absurd (cc)
-told-clean None events (Some (Err (checkpoint.Drive (cause.Stopped tx why)))) last n is told = absurd (cc)
-told-clean None events (Some (Err checkpoint.OutOfMemory)) last n is told = absurd is
-told-clean None events None last n is told = absurd is
+told-clean : (e : Ending) (events : ℕ) (finished : Option (Result ℕ CheckpointRefusal)) (last : Last) (n : ℕ) → IsLast e events finished last → last ≡ Clean n → finished ≡ Some (Ok n)
+told-clean (ending.Cut k) events finished last n is told = absurd (cc)
+told-clean ending.Sessions events finished last n is told = absurd (cc)
+told-clean ending.Checkpoint events (Some (Ok m)) last n is told = let same : Clean m ≡ Clean n = sym is ∙ told in cc
+told-clean ending.Checkpoint events (Some (Err (checkpoint.Drive cause.Off))) last n is told = absurd is
+told-clean ending.Checkpoint events (Some (Err (checkpoint.Drive (cause.Failed tx status)))) last n is told = absurd (cc)
+told-clean ending.Checkpoint events (Some (Err (checkpoint.Drive (cause.FailedHome block status)))) last n is told = absurd (cc)
+told-clean ending.Checkpoint events (Some (Err (checkpoint.Drive (cause.Stopped tx why)))) last n is told = absurd (cc)
+told-clean ending.Checkpoint events (Some (Err checkpoint.OutOfMemory)) last n is told = absurd is
+told-clean ending.Checkpoint events None last n is told = absurd is
 
 module _ (x : DriveImage) (scripts : List Script) (o : RunOptions) (r : ImageRun) (run : IsRunOf x scripts o r) (bytes : AreOfBytes scripts) where
   abbrev pub g : Geometry
@@ -76,8 +80,8 @@ module _ (x : DriveImage) (scripts : List Script) (o : RunOptions) (r : ImageRun
   same : run.recovered.image.geometry ≡ g
   same = run.recovery.geometry
 
-  pub ran : HasRunScripts emu_ghosts emu_state emu_faults g run.stops.drives.ports standing scripts (is_none o.cut) end
-  ran = subst (λ (z : Geometry). HasRunScripts emu_ghosts emu_state emu_faults z run.stops.drives.ports standing scripts (is_none o.cut) end) same has.ran
+  pub ran : HasRunScripts emu_ghosts emu_state emu_faults g run.stops.drives.ports standing scripts (finishes o.ending) end
+  ran = subst (λ (z : Geometry). HasRunScripts emu_ghosts emu_state emu_faults z run.stops.drives.ports standing scripts (finishes o.ending) end) same has.ran
 
   pub opens : MayOpen g (drive_of emu_state run.stops.drives.ports) standing
   opens = subst (λ (z : Geometry). MayOpen z (drive_of emu_state run.stops.drives.ports) standing) same run.stops.drives.opens
@@ -118,12 +122,12 @@ module _ (x : DriveImage) (scripts : List Script) (o : RunOptions) (r : ImageRun
 
   pub legal-list : IsLegal g scripts volume r.base r.entries.items
   legal-list =
-      let is = legal emu_ghosts emu_state emu_faults g run.stops.drives.ports standing scripts (is_none o.cut) end ran run.short volume bytes laid in
+      let is = legal emu_ghosts emu_state emu_faults g run.stops.drives.ports standing scripts (finishes o.ending) end ran run.short volume bytes laid in
       subst (λ (b : ℕ). IsLegal g scripts volume b r.entries.items) base-is (subst (λ es. IsLegal g scripts volume standing.base es.items) entries-are is)
 
   pub answered : AreAnswered scripts r.entries.items r.answers.items
   answered =
-      let is = are-answered emu_ghosts emu_state emu_faults g run.stops.drives.ports standing scripts (is_none o.cut) end ran run.short in
+      let is = are-answered emu_ghosts emu_state emu_faults g run.stops.drives.ports standing scripts (finishes o.ending) end ran run.short in
       subst (λ told. AreAnswered scripts r.entries.items told.items) answers-are (subst (λ es. AreAnswered scripts es.items end.answers.items) entries-are is)
 
   -- ---- what it leaves
@@ -149,7 +153,7 @@ module _ (x : DriveImage) (scripts : List Script) (o : RunOptions) (r : ImageRun
 
   pub is-a-cut : (k : ℕ) × IsCut g scripts volume r.base r.entries.items r.answers.items (view_of r.image) k
   is-a-cut =
-      let is = is-cut emu_ghosts emu_state emu_faults g run.stops.drives.ports standing scripts (is_none o.cut) end ran volume (queue_ports r.image) (root_port r.image) run.short bytes laid images in (
+      let is = is-cut emu_ghosts emu_state emu_faults g run.stops.drives.ports standing scripts (finishes o.ending) end ran volume (queue_ports r.image) (root_port r.image) run.short bytes laid images in (
         is.0,
         subst (λ (i : Shown). IsCut g scripts volume r.base r.entries.items r.answers.items i is.0) seen-is
             (subst (λ told. IsCut g scripts volume r.base r.entries.items told.items seen is.0) answers-are
@@ -167,7 +171,7 @@ module _ (x : DriveImage) (scripts : List Script) (o : RunOptions) (r : ImageRun
 
   pub rung : (q : ℕ) → q < queues_of g → IsRung g scripts volume r.entries.items r.answers.items q ((view_of x).doorbell q) ((view_of r.image).doorbell q)
   rung q own =
-      let is = is-rung emu_ghosts emu_state emu_faults g run.stops.drives.ports standing scripts (is_none o.cut) end ran run.short q own volume bytes laid in
+      let is = is-rung emu_ghosts emu_state emu_faults g run.stops.drives.ports standing scripts (finishes o.ending) end ran run.short q own volume bytes laid in
       subst (λ (n : ℕ). IsRung g scripts volume r.entries.items r.answers.items q ((view_of x).doorbell q) n) (new-bell q own)
       (subst (λ (n : ℕ). IsRung g scripts volume r.entries.items r.answers.items q n (port_at (drive_of emu_state end.ports).queues q).doorbell) (old-bell q own)
       (subst (λ told. IsRung g scripts volume r.entries.items told.items q (port_at (drive_of emu_state run.stops.drives.ports).queues q).doorbell (port_at (drive_of emu_state end.ports).queues q).doorbell) answers-are
@@ -177,11 +181,11 @@ module _ (x : DriveImage) (scripts : List Script) (o : RunOptions) (r : ImageRun
   end-finished = has.finished
 
   finished-is : (n : ℕ) → r.last ≡ Clean n → end.finished ≡ Some (Ok n)
-  finished-is n told = sym has.finished ∙ told-clean o.cut run.stopped.events run.stopped.driven.finished r.last n run.last told
+  finished-is n told = sym has.finished ∙ told-clean o.ending run.stopped.events run.stopped.driven.finished r.last n run.last told
 
   pub cleaned : (n : ℕ) → r.last ≡ Clean n → (n ≡ newest r.base r.entries.items) × IsClean g (view_of r.image) n
   cleaned n told =
-      let is = is-clean emu_ghosts emu_state emu_faults g run.stops.drives.ports standing scripts (is_none o.cut) end n ran (finished-is n told) (queue_ports r.image) (root_port r.image) run.short images in (
+      let is = is-clean emu_ghosts emu_state emu_faults g run.stops.drives.ports standing scripts (finishes o.ending) end n ran (finished-is n told) (queue_ports r.image) (root_port r.image) run.short images in (
         is.0 ∙ (ap (λ (b : ℕ). newest b end.entries.items) base-is ∙ ap (λ es. newest r.base es.items) entries-are),
         subst (λ (i : Shown). IsClean g i n) seen-is is.1,
       )

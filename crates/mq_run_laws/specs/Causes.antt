@@ -1,5 +1,5 @@
 -- What refusals for a drive's cause say of the options of a run on an image, and of how it ended.
-use Rattle.std.specs.Prelude.{◌≡◌, ◌⊎◌, ◌<◌, ◌≤◌, ◌-◌, ◌^◌, ℕ, Bool, true, List, length, Option, None, Some, Err, slice_get}
+use Rattle.std.specs.Prelude.{◌≡◌, ◌⊎◌, ◌<◌, ◌≤◌, ◌-◌, ◌^◌, ℕ, Bool, true, List, length, Some, Err, slice_get}
 use Rattle.std.specs.List.{Contains}
 use Rattle.mq_blocks.specs.Geometry.{home_lba, homes_of}
 use Rattle.mq_blocks.specs.declared.geometry.Geometry.{Geometry}
@@ -10,6 +10,8 @@ use Rattle.mq_drive.specs.Steps.{CommandError, HomeError, PortFault}
 use Rattle.mq_drive.specs.declared.emu.EmuPort.{EmuPort}
 use Rattle.mq_image.specs.File.{DriveImage}
 use Rattle.mq_image_run.specs.Runs.{IsRunOf}
+use Rattle.mq_image_run.specs.declared.options.Ending.{Ending}
+use Rattle.mq_image_run.specs.declared.options.Ending.TheVariants as ending
 use Rattle.mq_image_run.specs.declared.options.RunOptions.{RunOptions}
 use Rattle.mq_image_run.specs.declared.ran.ImageRun.{ImageRun}
 use Rattle.mq_image_ops.specs.Cuts.{row_of}
@@ -43,7 +45,7 @@ IsOfPower (Stopped tx (why.Status status)) = ⊥
 
 -- the power was to go off after k events, and all of them happened
 abbrev pub IsPoweredOff : RunOptions → ImageRun → Type 0
-IsPoweredOff o r = (k : ℕ) × (o.cut ≡ Some k) × (r.last ≡ Cut k)
+IsPoweredOff o r = (k : ℕ) × (o.ending ≡ ending.Cut k) × (r.last ≡ Cut k)
 
 -- ---- the command that has to fail
 
@@ -136,11 +138,13 @@ IsStopOf g o r ports reached (StoppedBlock block) =
 IsStopOf g o r ports reached (Clean n) = Unit {0}
 IsStopOf g o r ports reached (Cut e) = Unit {0}
 
--- The last line of a run whose power was to go off after k events gives how many happened, at most k. Else
--- it gives the number up to which all stands at home, or reports what stopped the run at its end.
-abbrev pub IsEndOf : (cut : Option ℕ) → Last → Type 0
-IsEndOf (Some k) last = (e : ℕ) × (last ≡ Cut e) × (e ≤ k)
-IsEndOf None (Clean n) = Unit {0}
-IsEndOf None (StoppedTx tx) = Unit {0}
-IsEndOf None (StoppedBlock block) = Unit {0}
-IsEndOf None (Cut e) = ⊥
+-- The last line of a run whose power was to go off after k events gives how many happened, at most k. With a
+-- checkpoint at the end it gives the number up to which all stands at home, or reports what stopped the run
+-- there. Where nothing was to follow the sessions, it tells no end.
+abbrev pub IsEndOf : Ending → Last → Type 0
+IsEndOf (ending.Cut k) last = (e : ℕ) × (last ≡ Cut e) × (e ≤ k)
+IsEndOf ending.Checkpoint (Clean n) = Unit {0}
+IsEndOf ending.Checkpoint (StoppedTx tx) = Unit {0}
+IsEndOf ending.Checkpoint (StoppedBlock block) = Unit {0}
+IsEndOf ending.Checkpoint (Cut e) = ⊥
+IsEndOf ending.Sessions last = (e : ℕ) × (last ≡ Cut e)

@@ -6,6 +6,7 @@ use Rattle.mq_image.specs.Drives.{IsRead}
 use Rattle.mq_image.specs.Faults.{HasFault}
 use Rattle.mq_image.specs.File.{DriveImage, image_bytes}
 use Rattle.mq_image_run.specs.Runs.{IsRunOf}
+use Rattle.mq_image_run.specs.declared.options.Ending.TheVariants.{Checkpoint}
 use Rattle.mq_image_run.specs.declared.options.RunOptions.{RunOptions}
 use Rattle.mq_image_run.specs.declared.ran.ImageRun.{ImageRun}
 use Rattle.mq_image_ops.specs.Views.{view_of}
@@ -26,9 +27,9 @@ use Rattle.mq_tree.specs.Volume.{Volume}
 -- of an image, and whatever recovery of what is read of the file leads to has this volume on its home
 -- blocks. Each doorbell has gone on by the entries of its queue's commits in a prefix of the lines, which
 -- has each that was answered `ok`. Each refusal has its cause in the scripts and the history, and one for a
--- drive's cause comes from what was asked of the drive, and charges a fault of its own. Without a cut, and if
--- no command failed, the run ended clean; and it is complete where no command was to fail and memory ran out
--- for no group. With a cut the last line gives the number of events that happened. If the run was stopped at
+-- drive's cause comes from what was asked of the drive, and charges a fault of its own. Where a checkpoint is
+-- made at the end and no command failed, the run ended clean; and it is complete where no command was to fail
+-- and memory ran out for no group. With a cut the last line gives the number of events that happened. If the run was stopped at
 -- its end, the transaction or the block that its last line names is of the command that had to fail. If it
 -- ended clean, the number in the last line is the last one, and the image is clean.
 pub record KeepsPromise (x : DriveImage) (scripts : List Script) (o : RunOptions)
@@ -49,12 +50,12 @@ pub record KeepsPromise (x : DriveImage) (scripts : List Script) (o : RunOptions
   pub backed : (run : IsRunOf x scripts o r) → AreBacked x.geometry o r (ports_of run)
   pub charged : (run : IsRunOf x scripts o r) (f : PortFault → Bool) → IsChargedOnce x scripts o r run f
   pub spared : o.fail ≡ None → r.failed ≡ false
-  pub ended : o.cut ≡ None → r.failed ≡ false → (n : ℕ) × (r.last ≡ Clean n)
-  pub last : IsEndOf o.cut r.last
+  pub ended : o.ending ≡ Checkpoint → r.failed ≡ false → (n : ℕ) × (r.last ≡ Clean n)
+  pub last : IsEndOf o.ending r.last
   pub stopped : (run : IsRunOf x scripts o r) → IsStopOf x.geometry o r (ports_of run) reached r.last
   pub clean : (n : ℕ) → r.last ≡ Clean n
       → (n ≡ newest r.base r.entries.items) × IsClean x.geometry (view_of r.image) n
-  pub complete : o.cut ≡ None → o.fail ≡ None → (HaveWanted r.answers.items → ⊥)
+  pub complete : o.ending ≡ Checkpoint → o.fail ≡ None → (HaveWanted r.answers.items → ⊥)
       → IsComplete x scripts volume r
 
 -- so it is of every run whose scripts write bytes
