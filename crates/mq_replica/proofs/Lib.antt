@@ -1,5 +1,6 @@
 mod Applied
 mod AppliedAnswers
+mod Bounds
 mod Committed
 mod FeederSteps
 mod Fronts
@@ -20,6 +21,7 @@ mod Quiets
 mod Recovered
 mod Reopened
 mod Results
+mod Rings
 mod Served
 mod Standing
 mod Within

@@ -1,6 +1,7 @@
 -- An offer, by what applying its writes leaves.
 use Rattle.std.proofs.Common.{◌≡◌, ◌⊎◌, ℕ, ◌+◌, Bool, true, false, length, refl, sym, ap, subst, ◌∙◌, arith, inl, inr, Ok, Err}
 use Rattle.std.proofs.Math.Logic.{∥∥₁_map}
+use Rattle.mq_blocks.specs.Drive.{counted}
 use Rattle.mq_blocks.specs.Machine.{Writes}
 use Rattle.mq_blocks.specs.declared.geometry.Geometry.{Geometry}
 use Rattle.mq_queue_side.specs.Commits.{descriptor_size}
@@ -11,6 +12,7 @@ use Rattle.mq_replica.specs.Plans.{pairs_of}
 use Rattle.mq_replica.specs.declared.update.OfferRefusal.{OfferRefusal}
 use Rattle.mq_replica.specs.declared.update.OfferRefusal.TheVariants as offer
 use Rattle.mq_replica.specs.declared.update.Update.{Update}
+use Rattle.mq_replica.proofs.Bounds.{bounds_same, bounds_then}
 use Rattle.mq_replica.proofs.Pairs.{pairs_count, pairs_same}
 use Rattle.mq_replica.proofs.Served.{always_more}
 use Rattle.mq_replica.proofs.Standing.{stands_same}
@@ -25,27 +27,29 @@ module _ (g : Geometry) (u : Update) (reached offers : ℕ) (old new : PortsStat
 
   pub applied : IsWritten g (pairs_of g u) old new → IsApplied (on g reached offers false old) u (on g u.number (offers + 1) false new)
   applied w = record {
-    offered = record { geometry = refl; offers = refl };
+    offered = record { geometry = refl; offers = refl; bounds = w.bounds };
     faults = w.faults;
     reached = refl;
     stopped = refl;
     stands = λ c is. stands_same g new.drive (with_writes (pairs_of g u) c) (after_update g u c) (same c) (w.stands c is);
     entries = (let e = w.entries in let n = pairs_count g u in let d : descriptor_size (length (pairs_of g u)) 0 ≡ descriptor_size (length u.writes + 1) 0 = ap (λ (m : ℕ). descriptor_size m 0) n in omega (arith, e, n, d));
+    rings = w.rings;
   }
 
   pub kept : IsSaved g old new → IsKept (on g reached offers false old) (on g reached (offers + 1) false new)
   kept s = record {
-    offered = record { geometry = refl; offers = refl };
+    offered = record { geometry = refl; offers = refl; bounds = s.bounds };
     faults = s.faults;
     reached = refl;
     stopped = refl;
     stands = s.stands;
     entries = s.entries;
+    rings = s.rings;
   }
 
   pub cut : IsCutOff g (pairs_of g u) old new → IsStopped (on g reached offers false old) u (on g reached (offers + 1) true new)
   cut s = record {
-    offered = record { geometry = refl; offers = refl };
+    offered = record { geometry = refl; offers = refl; bounds = s.bounds };
     risen = s.risen;
     reached = refl;
     stopped = refl;
@@ -78,7 +82,7 @@ module _ (g : Geometry) (u : Update) (reached offers : ℕ) (stopped : Bool) (ol
 -- nothing is done
 pub untouched : (g : Geometry) (reached offers : ℕ) (now : Bool) (p : PortsState) → IsUntouched (on g reached offers now p) (on g reached (offers + 1) now p)
 untouched g reached offers now p = record {
-  offered = record { geometry = refl; offers = refl };
+  offered = record { geometry = refl; offers = refl; bounds = bounds_same g p.drive p.drive refl };
   drive = refl;
   faults = refl;
   reached = refl;
@@ -100,20 +104,25 @@ refused g reached offers now p u (offer.Failed status) is = absurd is
 pub written_after : (g : Geometry) (ws : Writes) (a b c : PortsState) → IsSaved g a b → IsWritten g ws b c → IsWritten g ws a c
 written_after g ws a b c s w = record {
   faults = w.faults ∙ s.faults;
+  bounds = bounds_then g a.drive b.drive c.drive s.bounds w.bounds;
   stands = λ x is. w.stands x (s.stands x is);
   entries = w.entries ∙ ap (λ (n : ℕ). n + (length ws + descriptor_size (length ws) 0)) s.entries;
+  rings = w.rings ∙ ap (λ (n : ℕ). counted n 1) s.rings;
 }
 
 saved_after : (g : Geometry) (a b c : PortsState) → IsSaved g a b → IsSaved g b c → IsSaved g a c
 saved_after g a b c s t = record {
   faults = t.faults ∙ s.faults;
+  bounds = bounds_then g a.drive b.drive c.drive s.bounds t.bounds;
   stands = λ x is. t.stands x (s.stands x is);
   entries = t.entries ∙ s.entries;
+  rings = t.rings ∙ s.rings;
 }
 
 cut_after : (g : Geometry) (ws : Writes) (a b c : PortsState) → IsSaved g a b → IsCutOff g ws b c → IsCutOff g ws a c
 cut_after g ws a b c s t = record {
   risen = subst (λ f. Rattle.mq_replica.specs.Applying.HaveRisen f c.faults) s.faults t.risen;
+  bounds = bounds_then g a.drive b.drive c.drive s.bounds t.bounds;
   stands = λ x is. t.stands x (s.stands x is);
 }
 
@@ -127,4 +136,4 @@ leaves_after g ws a b c (offer.Range block) now s l = absurd l
 leaves_after g ws a b c (offer.TooLarge count limit) now s l = absurd l
 
 pub unchanged : (g : Geometry) (p : PortsState) → IsSaved g p p
-unchanged g p = record { faults = refl; stands = λ c is. is; entries = refl }
+unchanged g p = record { faults = refl; bounds = bounds_same g p.drive p.drive refl; stands = λ c is. is; entries = refl; rings = refl }

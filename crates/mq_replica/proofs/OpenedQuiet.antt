@@ -19,6 +19,7 @@ use Rattle.mq_replica.specs.Committing.{CommitCause, refusal_by}
 use Rattle.mq_replica.specs.Contents.{Contents}
 use Rattle.mq_replica.specs.Images.{StandsForEither}
 use Rattle.mq_replica.specs.Opened.{IsOpened, OpenedState, drive_over}
+use Rattle.mq_replica.proofs.Bounds.{bounds_same}
 use Rattle.mq_replica.proofs.OpenedStands.{opened_top}
 use Rattle.mq_replica.proofs.Propositions.{quiet_drive-prop}
 use Rattle.mq_replica.proofs.Quiets.{quiet}
@@ -54,8 +55,10 @@ low_known g v doorbell top o rung high = ∥∥₁_elim o (low-prop g (drive_ove
 pub saved_same : (g : Geometry) (old new : PortsState) → new ≡ old → IsSaved g old new
 saved_same g old new same = record {
   faults = ap (λ (p : PortsState). p.faults) same;
+  bounds = bounds_same g old.drive new.drive (ap (λ (p : PortsState). p.drive) same);
   stands = λ c stands. subst (λ (p : PortsState). Rattle.mq_replica.specs.Images.StandsFor g p.drive c) (sym same) stands;
   entries = ap Rattle.mq_replica.specs.Applying.doorbell_on same;
+  rings = ap Rattle.mq_replica.specs.Applying.rings_on same;
 }
 
 pub none_of : {A : Type 0} (o : Option A) → is_none o ≡ true → o ≡ None

@@ -15,7 +15,8 @@ use Rattle.mq_queue_side.specs.Drained.{Rises}
 use Rattle.mq_queue_side.specs.Stored.{FitsArea, FitsRing, Row, next_in}
 use Rattle.mq_revoke.specs.Placed.{Placed}
 use Rattle.mq_queue_side.proofs.DrainedCompletes.{gains_rises}
-use Rattle.mq_recover.specs.Drives.{DriveFaults, DriveState, IsQuiescentDrive, drive, view_over}
+use Rattle.mq_recover.specs.Drives.{AreBoundsKept, DriveFaults, DriveState, IsQuiescentDrive, drive, view_over}
+use Rattle.mq_recover.specs.Events.{recovery_events}
 use Rattle.mq_recover.specs.RecoverCauses.{HasDriveCause, OnDrive, OneGains}
 use Rattle.mq_recover.specs.Recovery.{IsReadPrefix, IsStartDrive}
 use Rattle.mq_recover.specs.Recovery as recovery
@@ -28,6 +29,7 @@ use Rattle.mq_replica.specs.Images.{StandsFor, StandsForEither}
 use Rattle.mq_replica.specs.Opened.{IsOpened, OpenedState, drive_over}
 use Rattle.mq_replica.specs.Opening.{IsFreshOpened}
 use Rattle.mq_replica.proofs.Reopened.{fresh_opened, fresh_top}
+use Rattle.mq_replica.proofs.Rings.{events_ring}
 use Rattle.mq_replica.proofs.Served.{always_more}
 use Rattle.mq_replica.proofs.Standing.{from_recovery, own_image, reaches_of, stands_same}
 
@@ -57,20 +59,26 @@ risen (Some q) f old new (low, faults, gains, is, root) =
     let now : get_or new.queues q [] ≡ faults = ap (λ (l : List (List PortFault)). get_or l q []) is ∙ get_or-set_same old.queues q faults [] low in
     (Some q, subst (λ (l : List PortFault). Rises (get_or old.queues q []) l) (sym now) (gains_rises f (get_or old.queues q []) faults gains))
 
-pub cut_off : (g : Geometry) (z : Option ℕ) (fault : PortFault) (e : RecoverRefusal) (old new : PortsState) → IsCutShort g e old.drive new.drive → OneGains z fault old.faults new.faults → (ws : Writes) → IsCutOff g ws old new
-cut_off g z fault e old new cut gains ws = record {
+pub cut_off : (g : Geometry) (z : Option ℕ) (fault : PortFault) (e : RecoverRefusal) (old new : PortsState) → IsCutShort g e old.drive new.drive → OneGains z fault old.faults new.faults → AreBoundsKept g old.drive new.drive → (ws : Writes) → IsCutOff g ws old new
+cut_off g z fault e old new cut gains bounds ws = record {
   risen = risen z fault old.faults new.faults gains;
+  bounds = bounds;
   stands = λ c is. either_on g new.drive c ws (stands_on g old.drive new.drive cut.ds cut.top cut.read cut.stands c is);
 }
 
 -- ---- a whole recovery
 
 module _ (g : Geometry) (one : g.queues ≡ 1) (old new : PortsState) (prefix base : ℕ) (whole : HasRecovered g old.drive prefix base new.drive) (same : new.faults ≡ old.faults) where
-  pub saved : IsSaved g old new
-  saved = record {
+  pub rings_same : (port_at new.drive.queues 0).rings ≡ (port_at old.drive.queues 0).rings
+  rings_same = ap (λ (d : DriveState). (port_at d.queues 0).rings) whole.events ∙ events_ring g old.drive (recovery_events old.drive whole.writes base)
+
+  pub saved : AreBoundsKept g old.drive new.drive → IsSaved g old new
+  saved bounds = record {
     faults = same;
+    bounds = bounds;
     stands = stands_on g old.drive new.drive whole.ds base whole.read whole.stands;
     entries = (whole.recovered.heads 0 (omega (arith, one))).doorbell;
+    rings = rings_same;
   }
 
   pub head_at : (port_at new.drive.queues 0).head ≡ (port_at new.drive.queues 0).doorbell

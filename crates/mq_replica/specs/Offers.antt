@@ -1,13 +1,14 @@
 -- A replica as the contracts of its calls see it, and what its calls answer and leave.
 use Rattle.std.specs.Prelude.{◌≡◌, ◌≢◌, ◌⊎◌, ◌<◌, ◌≤◌, ◌^◌, ℕ, ◌+◌, Bool, true, false, List, length, Result, Ok, Err}
 use Rattle.mq_blocks.specs.Descriptor.{Descriptor}
+use Rattle.mq_blocks.specs.Drive.{counted}
 use Rattle.mq_blocks.specs.Journal.{Reaches, stands}
 use Rattle.mq_blocks.specs.Machine.{Writes}
 use Rattle.mq_blocks.specs.declared.geometry.Geometry.{Geometry}
 use Rattle.mq_ledger.specs.History.{blocks_of}
 use Rattle.mq_ledger.specs.State.{port_at}
 use Rattle.mq_queue_side.specs.Commits.{descriptor_size}
-use Rattle.mq_recover.specs.Drives.{DriveFaults, DriveState, IsQuiescentDrive, view_over}
+use Rattle.mq_recover.specs.Drives.{AreBoundsKept, DriveFaults, DriveState, IsQuiescentDrive, view_over}
 use Rattle.mq_recover.specs.Recovery.{IsReadPrefix}
 use Rattle.mq_recover.specs.declared.refusal.RecoverRefusal.{RecoverRefusal}
 use Rattle.mq_recover.specs.declared.refusal.RecoverRefusal.TheVariants as recovery
@@ -58,10 +59,15 @@ pub record MayApply (g : Geometry) (reached : ℕ) (stopped : Bool) (ws : Writes
 abbrev pub doorbell_of : ReplicaState → ℕ
 doorbell_of r = (port_at r.drive.queues 0).doorbell
 
--- what every offer leaves
+-- how often its doorbell was rung
+abbrev pub rings_of : ReplicaState → ℕ
+rings_of r = (port_at r.drive.queues 0).rings
+
+-- what every offer leaves: the power lasts as it did, and the same command is to fail
 pub record IsOffered (old new : ReplicaState) : Type 0 where
   pub geometry : new.geometry ≡ old.geometry
   pub offers : new.offers ≡ old.offers + 1
+  pub bounds : AreBoundsKept old.geometry old.drive new.drive
 
 -- Nothing was done.
 pub record IsUntouched (old new : ReplicaState) : Type 0 where
@@ -72,7 +78,7 @@ pub record IsUntouched (old new : ReplicaState) : Type 0 where
   pub stopped : new.stopped ≡ old.stopped
 
 -- Each image stands for the contents after the update, where each stood for those before it. The entries
--- are those of its writes, of the last block, and of the descriptor.
+-- are those of its writes, of the last block, and of the descriptor, and one ring makes all of them visible.
 pub record IsApplied (old : ReplicaState) (u : Update) (new : ReplicaState) : Type 0 where
   pub offered : IsOffered old new
   pub faults : new.faults ≡ old.faults
@@ -82,6 +88,7 @@ pub record IsApplied (old : ReplicaState) (u : Update) (new : ReplicaState) : Ty
       → StandsFor old.geometry new.drive (after_update old.geometry u c)
   pub entries : doorbell_of new
       ≡ doorbell_of old + (length u.writes + 1 + descriptor_size (length u.writes + 1) 0)
+  pub rings : rings_of new ≡ counted (rings_of old) 1
 
 -- Memory ran out, perhaps after the area was reclaimed: each image stands for what it stood for.
 pub record IsKept (old new : ReplicaState) : Type 0 where
@@ -91,6 +98,7 @@ pub record IsKept (old new : ReplicaState) : Type 0 where
   pub stopped : new.stopped ≡ false
   pub stands : (c : ℕ → List ℕ) → StandsFor old.geometry old.drive c → StandsFor old.geometry new.drive c
   pub entries : doorbell_of new ≡ doorbell_of old
+  pub rings : rings_of new ≡ rings_of old
 
 -- The drive stopped it: each image stands for what it stood for, or for the contents after the update.
 pub record IsStopped (old : ReplicaState) (u : Update) (new : ReplicaState) : Type 0 where
@@ -136,6 +144,7 @@ pub record MayOpen (g : Geometry) (d : DriveState) : Type 0 where
 -- Each image stands for what stood on the ports, and the last block says the number.
 pub record IsOpenedOn (g : Geometry) (d : DriveState) (r : ReplicaState) : Type 0 where
   pub shape : r.geometry ≡ g
+  pub bounds : AreBoundsKept g d r.drive
   pub ds : List Descriptor
   pub read : Reaches g (view_over g d) ds
   pub images : StandsFor g r.drive (stands g (view_over g d) ds)
@@ -143,9 +152,11 @@ pub record IsOpenedOn (g : Geometry) (d : DriveState) (r : ReplicaState) : Type 
   pub offers : r.offers ≡ 0
   pub stopped : r.stopped ≡ false
   pub entries : doorbell_of r ≡ (port_at d.queues 0).doorbell
+  pub rings : rings_of r ≡ (port_at d.queues 0).rings
 
 -- Each image of the ports that are given back stands for what stood on them.
 pub record IsGivenBack (g : Geometry) (d new : DriveState) : Type 0 where
+  pub bounds : AreBoundsKept g d new
   pub ds : List Descriptor
   pub read : Reaches g (view_over g d) ds
   pub images : StandsFor g new (stands g (view_over g d) ds)

@@ -1,6 +1,6 @@
 // One transaction on a side that one thread owns.
 ghost use Rattle.std.specs.Prelude.{◌≡◌, ◌<◌, ◌≤◌, ◌+◌, ◌-◌, ◌^◌, [], None, OnOk, length, vec_len, vec_capacity};
-ghost use Rattle.mq_blocks.specs.Drive.{staged_end};
+ghost use Rattle.mq_blocks.specs.Drive.{IsBoundKept, counted, staged_end};
 ghost use Rattle.mq_blocks.specs.Geometry.{queues_of};
 ghost use Rattle.mq_blocks.specs.Journal.{number_limit};
 ghost use Rattle.mq_blocks.specs.Limits.{usable_depth};
@@ -36,6 +36,9 @@ pub fn commit<Q: Port>(
         prepared number result (side_state Q.state Q.faults side.new) (rows_of side.new.stored.items) }
     ensures cause { CommitCause result (Q.faults side.old.pmr.port) (Q.faults side.new.pmr.port) }
     ensures none { OnOk result (side.new.kept ≡ None) }
+    ensures rings { OnOk result ((Q.state side.new.pmr.port).rings
+        ≡ counted (Q.state side.old.pmr.port).rings 1) }
+    ensures bound { IsBoundKept (Q.state side.old.pmr.port) (Q.state side.new.pmr.port) }
 {
     let numbered = side.numbered(prepared, number, ());
     match side.send(numbered) {

@@ -1,6 +1,7 @@
 use Rattle.std.proofs.Common.{◌≡◌, ℕ, ◌+◌, ◌<◌, ◌≤◌, ◌^◌, [], ◌∷◌, List, Ok, Err, ap, arith, length, map, refl, subst, sym, true, ◌∙◌}
 use Rattle.std.proofs.lemmas.List.{length-map}
 use Rattle.mq_blocks.specs.Descriptor.{AreRising}
+use Rattle.mq_blocks.specs.Drive.{counted}
 use Rattle.mq_blocks.specs.Geometry.{homes_of, queues_of, write_limit}
 use Rattle.mq_drive.specs.Steps.{PortFault}
 use Rattle.mq_queue_side.specs.Commits.{Commit, IsPlanOf, descriptor_size, further_of}
@@ -90,11 +91,12 @@ returns-in-Ok-answer-clause-ok g c =
       at = c.number.inside.0 + 1;
       at_is = at;
       commits = e.commits;
+      bound = e.bound;
       root = refl;
       number = at;
     } in
     let faults : F side.pmr.port ≡ F c.args.opened.side.pmr.port = e.cause ∙ ap (λ q. F q.port) p.pmr in
-    is_written c.args.geometry v c.args.writes.now c.args.plan.now asks new (Ok c.in-Ok-answer.field-0) was c.in-Ok-answer.field-0 refl e.none (λ i. record { queues = faults i ∷ []; root = v.root_faults }) c.requires.opened
+    is_written c.args.geometry v c.args.writes.now c.args.plan.now asks new (Ok c.in-Ok-answer.field-0) was c.in-Ok-answer.field-0 refl e.none (λ i. record { queues = faults i ∷ []; root = v.root_faults }) (e.rings ∙ ap (λ q. counted (S q.port).rings 1) p.pmr) c.requires.opened
 
 pub returns-in-Ok-answer-clause-opened : goal.returns-in-Ok-answer-clause-opened
 returns-in-Ok-answer-clause-opened g c = λ o.
@@ -117,6 +119,7 @@ returns-in-Ok-answer-clause-opened g c = λ o.
       at = c.number.inside.0 + 1;
       at_is = at;
       commits = e.commits;
+      bound = e.bound;
       root = refl;
       number = at;
     } in
@@ -143,6 +146,7 @@ returns-in-Err-answer-clause-err g c =
       at = c.number.inside.0 + 1;
       at_is = at;
       commits = e.commits;
+      bound = e.bound;
       root = refl;
       number = at;
     } in

@@ -3,6 +3,9 @@ use Rattle.mq_drive.specs.Steps.{Gains, PortFault, PowerOff}
 use Rattle.mq_queue_side.specs.Sent.{RingsAll, Sends}
 use Rattle.mq_queue_side.specs.Side.{SideState, side_state}
 use Rattle.mq_queue_side.specs.Stored.{rows_of}
+use Rattle.mq_replica.proofs.Bounds.{bound_cut, bound_sent, bound_then}
+use Rattle.mq_replica.proofs.Results.{on_ok}
+use Rattle.mq_replica.proofs.Rings.{ring_sent}
 use Rattle.mq_replica.proofs.Committed.{committed, rows_then, same_side, was_drained, was_sent}
 use Rattle.mq_queue_side.proofs.DrainedCompletes.{gains_rises}
 use Rattle.mq_replica.proofs.committing.commit.Goals as goal
@@ -20,6 +23,24 @@ returns-in-Ok-clause-commits g c = λ k t m num tells.
       rows_then k t _ (rows_of s.stored.items) c.args.number c.args.prepared m num tells c.requires.none (rows_of c.drain.new.self.stored.items) (stored ∙ n.rows),
       committed k t _ (rows_of s.stored.items) c.args.number c.args.prepared m num tells c.requires.none c.numbered-numbered.result _ _ n.commit sends rings c.drain.result d.drains d.whole,
     )
+
+pub returns-in-Ok-clause-bound : goal.returns-in-Ok-clause-bound
+returns-in-Ok-clause-bound g c =
+    let S = g.Q.Port.state in
+    let at = ap (λ q. S q.port) c.numbered-numbered.ensures.pmr in
+    bound_then (S c.args.side.now.pmr.port) (S c.send.new.self.pmr.port) (S c.drain.new.self.pmr.port) (bound_sent (S c.args.side.now.pmr.port) _ _ _ _ at c.in-Ok.ensures.ok) c.drain.ensures.drains.bound
+
+pub returns-in-Ok-clause-rings : goal.returns-in-Ok-clause-rings
+returns-in-Ok-clause-rings g c =
+    let S = g.Q.Port.state in
+    let at = ap (λ q. S q.port) c.numbered-numbered.ensures.pmr in
+    on_ok c.drain.result _ (c.drain.ensures.drains.rings ∙ ring_sent (S c.args.side.now.pmr.port) _ _ _ _ at c.in-Ok.ensures.ok)
+
+pub returns-in-Err-clause-bound : goal.returns-in-Err-clause-bound
+returns-in-Err-clause-bound g c =
+    let S = g.Q.Port.state in
+    let at = ap (λ q. S q.port) c.numbered-numbered.ensures.pmr in
+    bound_cut (S c.args.side.now.pmr.port) _ _ _ (S c.send.new.self.pmr.port) at c.in-Err.ensures.off
 
 pub returns-in-Err-clause-commits : goal.returns-in-Err-clause-commits
 returns-in-Err-clause-commits g c = λ k t m num tells.

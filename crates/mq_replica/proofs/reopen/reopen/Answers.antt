@@ -17,7 +17,7 @@ returns-in-Ok-open_ports-clause-ok g c =
     let S = below g.P.Port.state in
     let F = faults_below g.P.Port.faults in
     along c.args.geometry (ports_of S F c.args.ports) (ports_of S F c.recover.new.ports) _ c.in-Ok-open_ports.ensures.ports
-    (saved c.args.geometry c.requires.one (ports_of S F c.args.ports) (ports_of S F c.recover.new.ports) _ _ c.in-Ok.ensures.ok c.in-Ok.ensures.cause)
+    (saved c.args.geometry c.requires.one (ports_of S F c.args.ports) (ports_of S F c.recover.new.ports) _ _ c.in-Ok.ensures.ok c.in-Ok.ensures.cause c.recover.ensures.bounds)
 
 pub returns-in-Ok-open_ports-clause-opened : goal.returns-in-Ok-open_ports-clause-opened
 returns-in-Ok-open_ports-clause-opened g c =
@@ -51,7 +51,7 @@ returns-in-Err-clause-err g c = λ ws.
     let F = faults_below g.P.Port.faults in (
       refl,
       along c.args.geometry (ports_of S F c.args.ports) (ports_of S F c.recover.new.ports) _ c.in-Err.ensures.err
-          (saved c.args.geometry c.requires.one (ports_of S F c.args.ports) (ports_of S F c.recover.new.ports) _ _ c.in-Ok.ensures.ok c.in-Ok.ensures.cause),
+          (saved c.args.geometry c.requires.one (ports_of S F c.args.ports) (ports_of S F c.recover.new.ports) _ _ c.in-Ok.ensures.ok c.in-Ok.ensures.cause c.recover.ensures.bounds),
     )
 
 pub returns-in-Err-clause-within : goal.returns-in-Err-clause-within
@@ -67,7 +67,7 @@ returns-in-Err-Off-clause-err g c = λ ws.
     let F = faults_below g.P.Port.faults in
     let r = c.in-Err-Off in
     let cause = cause_is Recovered c.args.geometry r.field-0 Off _ _ r.field-0-is r.ensures.cause in
-    (refl, cut_off c.args.geometry cause.0 PowerOff Off (ports_of S F c.args.ports) (ports_of S F c.recover.new.ports) (on_is Recovered r.field-0 Off _ r.field-0-is r.ensures.drive) cause.1 ws)
+    (refl, cut_off c.args.geometry cause.0 PowerOff Off (ports_of S F c.args.ports) (ports_of S F c.recover.new.ports) (on_is Recovered r.field-0 Off _ r.field-0-is r.ensures.drive) cause.1 c.recover.ensures.bounds ws)
 
 pub returns-in-Err-Failed-clause-err : goal.returns-in-Err-Failed-clause-err
 returns-in-Err-Failed-clause-err g c = λ ws.
@@ -75,4 +75,4 @@ returns-in-Err-Failed-clause-err g c = λ ws.
     let F = faults_below g.P.Port.faults in
     let r = c.in-Err-Failed in
     let cause = cause_is Recovered c.args.geometry r.field-0 (Failed r.field-0-0 r.status) _ _ r.field-0-is r.ensures.cause in
-    (refl, cut_off c.args.geometry (zone_of c.args.geometry r.field-0-0) (HomeError (home_lba c.args.geometry r.field-0-0) r.status) (Failed r.field-0-0 r.status) (ports_of S F c.args.ports) (ports_of S F c.recover.new.ports) (on_is Recovered r.field-0 (Failed r.field-0-0 r.status) _ r.field-0-is r.ensures.drive) cause ws)
+    (refl, cut_off c.args.geometry (zone_of c.args.geometry r.field-0-0) (HomeError (home_lba c.args.geometry r.field-0-0) r.status) (Failed r.field-0-0 r.status) (ports_of S F c.args.ports) (ports_of S F c.recover.new.ports) (on_is Recovered r.field-0 (Failed r.field-0-0 r.status) _ r.field-0-is r.ensures.drive) cause c.recover.ensures.bounds ws)

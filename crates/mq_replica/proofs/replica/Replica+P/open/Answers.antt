@@ -21,7 +21,7 @@ returns-in-Err-recover-clause-refused g c =
     let back : DriveState = drive_of g.P.Port.state c.unwrap_ports.result in
     let same : wrapped ≡ given = ap (λ (p : PortsState). p.drive) c.in-Ok-wrap_ports.ensures.ports in
     let out : back ≡ left = ap (λ (p : PortsState). p.drive) c.unwrap_ports.ensures in
-    let refused : IsOpenRefused G wrapped e left = open_refused Recovered G e wrapped left (λ f. (f ≡ fault.OutOfMemory) ⊎ RefusesImage G wrapped f) c.in-Err-recover.ensures.image c.in-Err-recover.ensures.drive in
+    let refused : IsOpenRefused G wrapped e left = open_refused Recovered G e wrapped left (λ f. (f ≡ fault.OutOfMemory) ⊎ RefusesImage G wrapped f) c.in-Err-recover.ensures.image c.in-Err-recover.ensures.drive c.recover.ensures.bounds in
     subst (λ (x : DriveState). IsOpenRefused G given e x) (sym out) (subst (λ (x : DriveState). IsOpenRefused G x e left) same refused)
 
 pub invariant_of-result : goal.invariant_of-result
@@ -44,4 +44,4 @@ returns-clause-ok g c =
     let S = below g.P.Port.state in
     let F = faults_below g.P.Port.faults in
     let same = ap (λ (p : PortsState). p.drive) c.in-Ok-wrap_ports.ensures.ports in
-    opened_on c.args.geometry (drive_of g.P.Port.state c.args.ports) (ports_of S F c.in-Ok-wrap_ports.wrapped.0) (ports_of S F c.recover.new.ports) _ _ _ _ c.requires.one same c.in_default.ensures.ok (c.read_home.ensures ∙ ap (λ x. (view_over c.args.geometry (drive_of S c.recover.new.ports)).home x) c.last_home.ensures) c.number_in.ensures
+    opened_on c.args.geometry (drive_of g.P.Port.state c.args.ports) (ports_of S F c.in-Ok-wrap_ports.wrapped.0) (ports_of S F c.recover.new.ports) _ _ _ _ c.requires.one same c.in_default.ensures.ok c.in_default.ensures.cause c.recover.ensures.bounds (c.read_home.ensures ∙ ap (λ x. (view_over c.args.geometry (drive_of S c.recover.new.ports)).home x) c.last_home.ensures) c.number_in.ensures
