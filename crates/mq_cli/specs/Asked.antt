@@ -29,6 +29,7 @@ pub data Asked : Type 0 where
   dump : (image : Text) → Asked
   check : (image : Text) → Asked
   audit : (trace : Text) → Asked
+  replicate : (file : Text) → (seed : Option ℕ) → (save : Option Text) → Asked
   help : Option Verb → Asked
   version : Asked
 
@@ -133,6 +134,10 @@ abbrev pub gen_by : (seed threads groups : Option ℕ) → (save : Option Text) 
 gen_by (Some seed) (Some threads) (Some groups) save = Some (gen seed threads groups save)
 gen_by _ _ _ _ = None
 
+abbrev pub replicate_by : Option Text → (seed : Option (Option ℕ)) → (save : Option Text) → Option Asked
+replicate_by (Some file) (Some seed) save = Some (replicate file seed save)
+replicate_by _ _ _ = None
+
 -- the number of a name that is found
 abbrev pub word_in : Option Text → Option ℕ
 word_in word = option_and_then (number_within word_end) word
@@ -165,6 +170,8 @@ asked_by verb.Gen rows = gen_by (number_from 0 number_end (first_of (codes "seed
 asked_by verb.Dump rows = option_map dump (first_of (codes "image") rows)
 asked_by verb.Check rows = option_map check (first_of (codes "image") rows)
 asked_by verb.Audit rows = option_map audit (first_of (codes "trace") rows)
+asked_by verb.Replicate rows = replicate_by (first_of (codes "file") rows)
+    (number_option (first_of (codes "seed") rows)) (first_of (codes "save") rows)
 
 -- ---- what words ask
 
@@ -212,6 +219,7 @@ asked (command.Gen seed threads groups save) = gen seed threads groups (option_m
 asked (command.Dump image) = dump image.now
 asked (command.Check image) = check image.now
 asked (command.Audit trace) = audit trace.now
+asked (command.Replicate file seed save) = replicate file.now seed (option_map (λ s. s.now) save)
 asked (command.Help verb) = help verb
 asked command.Version = version
 
@@ -242,6 +250,7 @@ HasSmallNumbers (command.Run image scripts options) = AreSmallOfRun options
 HasSmallNumbers (command.Recover image cut pick) =
     IfSome cut (λ n. n < number_end) × IfSome pick (λ n. n < number_end)
 HasSmallNumbers (command.Gen seed threads groups save) = AreSmallOfGen seed threads groups
+HasSmallNumbers (command.Replicate file seed save) = IfSome seed (λ n. n < number_end)
 HasSmallNumbers _ = Unit {0}
 
 -- a run has at least one script

@@ -15,8 +15,9 @@ program_help =
     ++ (codes "  mqfs gen SEED THREADS GROUPS [--save NAME]\n"
     ++ (codes "  mqfs dump IMAGE\n"
     ++ (codes "  mqfs check IMAGE\n"
-    ++ (codes "  mqfs audit TRACE\n\n"
-    ++ (codes "mqfs COMMAND --help says more of a command.\n")))))))))))
+    ++ (codes "  mqfs audit TRACE\n"
+    ++ (codes "  mqfs replicate FILE [--seed S] [--save NAME]\n\n"
+    ++ (codes "mqfs COMMAND --help says more of a command.\n"))))))))))))
 
 unfoldable pub blocks_help : List ℕ
 blocks_help =
@@ -102,6 +103,16 @@ audit_help =
     ++ (codes "that it does not allow. Nothing is saved.\n\n"
     ++ (codes "Example: mqfs audit t\n"))))
 
+unfoldable pub replicate_help : List ℕ
+replicate_help =
+    codes "mqfs replicate FILE [--seed S] [--save NAME]\n\n"
+    ++ (codes "Sends each line of the block text FILE as an update to a replica on a fresh\n"
+    ++ (codes "drive, over a link that loses and repeats updates, and prints how many the\n"
+    ++ (codes "replica has reached and the blocks that stand on it.\n\n"
+    ++ (codes "  --seed S     chooses what the link loses and repeats, else 0\n"
+    ++ (codes "  --save NAME  saves the image of the replica\n\n"
+    ++ (codes "Example: mqfs replicate examples/frees.txt --seed 3\n"))))))
+
 abbrev pub help_text : Option Verb → List ℕ
 help_text None = program_help
 help_text (Some verb.Blocks) = blocks_help
@@ -114,6 +125,7 @@ help_text (Some verb.Gen) = gen_help
 help_text (Some verb.Dump) = dump_help
 help_text (Some verb.Check) = check_help
 help_text (Some verb.Audit) = audit_help
+help_text (Some verb.Replicate) = replicate_help
 
 abbrev pub version_line : List ℕ
 version_line = codes "mqfs 0.1.0\n"

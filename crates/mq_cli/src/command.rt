@@ -90,6 +90,13 @@ pub enum Command<'a> {
     Audit {
         trace: &'a str,
     },
+    Replicate {
+        file: &'a str,
+        /// The seed of the words that decide what is lost and what comes twice.
+        seed: Option<u64>,
+        /// The name under which the image of the replica is saved.
+        save: Option<&'a str>,
+    },
     /// Help on a command, or on the program.
     Help(Option<Verb>),
     Version,

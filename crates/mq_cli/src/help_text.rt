@@ -1,6 +1,6 @@
 // What the program says of itself and of each command.
 ghost use Rattle.std.specs.Prelude.{◌≡◌};
-ghost use Rattle.mq_cli.specs.Help.{audit_help, blocks_help, cat_help, check_help, dump_help, format_help, gen_help, help_text, ls_help, program_help, recover_help, run_help, version_line as version_text};
+ghost use Rattle.mq_cli.specs.Help.{audit_help, blocks_help, cat_help, check_help, dump_help, format_help, gen_help, help_text, ls_help, program_help, recover_help, replicate_help, run_help, version_line as version_text};
 
 use crate::verb::Verb;
 
@@ -20,6 +20,7 @@ fn program_text() -> &'static str
   mqfs dump IMAGE
   mqfs check IMAGE
   mqfs audit TRACE
+  mqfs replicate FILE [--seed S] [--save NAME]
 
 mqfs COMMAND --help says more of a command.
 "
@@ -173,6 +174,23 @@ Example: mqfs audit t
 "
 }
 
+#[tactic(auto, unfolding(crate::specs::Help::replicate_help))]
+fn replicate_text() -> &'static str
+    ensures { result.now ≡ replicate_help }
+{
+    "mqfs replicate FILE [--seed S] [--save NAME]
+
+Sends each line of the block text FILE as an update to a replica on a fresh
+drive, over a link that loses and repeats updates, and prints how many the
+replica has reached and the blocks that stand on it.
+
+  --seed S     chooses what the link loses and repeats, else 0
+  --save NAME  saves the image of the replica
+
+Example: mqfs replicate examples/frees.txt --seed 3
+"
+}
+
 /// The help on a command, or on the program.
 pub fn help_on(topic: Option<Verb>) -> &'static str
     ensures { result.now ≡ help_text topic }
@@ -189,6 +207,7 @@ pub fn help_on(topic: Option<Verb>) -> &'static str
         Some(Verb::Dump) => dump_text(),
         Some(Verb::Check) => check_text(),
         Some(Verb::Audit) => audit_text(),
+        Some(Verb::Replicate) => replicate_text(),
     }
 }
 

@@ -223,6 +223,20 @@ fn workload<'a>(matches: &ArgMatches<'a>) -> Result<Command<'a>, WordsRefusal>
     })
 }
 
+// What is found of `replicate` asks.
+fn replicate<'a>(matches: &ArgMatches<'a>) -> Result<Command<'a>, WordsRefusal>
+    ensures asks { MatchResult result (λ c. asked_by verb.Replicate (rows_of (found_of matches.now)) ≡ Some (asked c))
+        (λ e. (e ≡ WordsRefusal.Unknown)
+        × (asked_by verb.Replicate (rows_of (found_of matches.now)) ≡ None)) }
+    ensures small { IfOk result HasSmallNumbers }
+    ensures script { IfOk result HasScript }
+{
+    let file = name(matches, "file")?;
+    let seed = number(matches, "seed")?;
+    let save = found(matches, "save");
+    Ok(Command::Replicate { file, seed, save })
+}
+
 // What is found of a command asks.
 fn command_of<'a>(
     alloc: Global,
@@ -258,6 +272,7 @@ fn command_of<'a>(
             let trace = name(matches, "trace")?;
             Ok(Command::Audit { trace })
         }
+        Verb::Replicate => replicate(matches),
     }
 }
 

@@ -19,6 +19,7 @@ pub fn names<'a>(verb: Verb) -> &'a [&'a str]
         Verb::Dump => &["image"],
         Verb::Check => &["image"],
         Verb::Audit => &["trace"],
+        Verb::Replicate => &["file"],
     }
 }
 
@@ -36,7 +37,8 @@ pub fn repeated<'a>(verb: Verb) -> Option<&'a str>
         | Verb::Gen
         | Verb::Dump
         | Verb::Check
-        | Verb::Audit => None,
+        | Verb::Audit
+        | Verb::Replicate => None,
     }
 }
 
@@ -49,6 +51,7 @@ pub fn options<'a>(verb: Verb) -> &'a [&'a str]
         Verb::Run => &["cut", "pick", "fail"],
         Verb::Recover => &["cut", "pick"],
         Verb::Gen => &["save"],
+        Verb::Replicate => &["seed", "save"],
         Verb::Format | Verb::Ls | Verb::Cat | Verb::Dump | Verb::Check | Verb::Audit => &[],
     }
 }

@@ -15,6 +15,7 @@ pub enum Verb {
     Dump,
     Check,
     Audit,
+    Replicate,
 }
 
 impl Verb {
@@ -33,6 +34,7 @@ impl Verb {
             Verb::Dump => "dump",
             Verb::Check => "check",
             Verb::Audit => "audit",
+            Verb::Replicate => "replicate",
         }
     }
 }
@@ -52,6 +54,7 @@ pub fn read_verb(word: &str) -> Option<Verb>
         "dump" => Some(Verb::Dump),
         "check" => Some(Verb::Check),
         "audit" => Some(Verb::Audit),
+        "replicate" => Some(Verb::Replicate),
         _ => None,
     }
 }

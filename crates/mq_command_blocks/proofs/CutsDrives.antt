@@ -63,7 +63,7 @@ lines_below homes ((i ∷ is) ∷ ls) size good = (items_below homes (i ∷ is) 
 -- ---- two ports are cut
 
 -- the images and the seats of two ports
-record AreTwoCut (pick : ℕ) (queue root : EmuPort) (images : List PortImage) (seats : List FuseSeat) : Type 0 where
+pub record AreTwoCut (pick : ℕ) (queue root : EmuPort) (images : List PortImage) (seats : List FuseSeat) : Type 0 where
   pub queue_image : PortImage
   pub root_image : PortImage
   pub queue_seat : FuseSeat
@@ -73,7 +73,7 @@ record AreTwoCut (pick : ℕ) (queue root : EmuPort) (images : List PortImage) (
   pub queue_cut : IsCutPort pick queue queue_image queue_seat
   pub root_cut : IsCutPort pick root root_image root_seat
 
-two_cut : (pick : ℕ) (queue root : EmuPort) (images : List PortImage) (seats : List FuseSeat) → AreCutPorts pick (queue ∷ root ∷ []) images seats → AreTwoCut pick queue root images seats
+pub two_cut : (pick : ℕ) (queue root : EmuPort) (images : List PortImage) (seats : List FuseSeat) → AreCutPorts pick (queue ∷ root ∷ []) images seats → AreTwoCut pick queue root images seats
 two_cut pick queue root images seats cut = of cut.cuts cut.each cut.ports_are cut.images_are cut.seats_are
   where
     of : (cs : List CutPort) → All (λ (c : CutPort). IsCutPort pick c.port c.image c.seat) cs → queue ∷ root ∷ [] ≡ map (λ (c : CutPort). c.port) cs → images ≡ map (λ (c : CutPort). c.image) cs → seats ≡ map (λ (c : CutPort). c.seat) cs → AreTwoCut pick queue root images seats

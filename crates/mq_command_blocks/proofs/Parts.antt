@@ -26,12 +26,12 @@ some_map f (Some x) = refl
 abbrev pub BlocksEnd : (file : List ℕ) → BlocksOptions → (save trace : Option (List ℕ)) → (old new : FilesState) → (result : ℕ) → (before after : SinkState) → Type 0
 BlocksEnd file options save trace old new result before after = (status : ℕ) × (text : List ℕ) × SaysOfBlocks file options save trace old new status text × EndsWith status text result before after
 
-ends_from : (status : ℕ) (text : List ℕ) (result : ℕ) (before between after : SinkState) → between ≡ before → EndsWith status text result between after → EndsWith status text result before after
+pub ends_from : (status : ℕ) (text : List ℕ) (result : ℕ) (before between after : SinkState) → between ≡ before → EndsWith status text result between after → EndsWith status text result before after
 ends_from status text result before between after silent ends = subst (λ (s : SinkState). EndsWith status text result s after) silent ends
 
 module _ {Z : Type 0} (x : DriveImage) (old new : FilesState) where
   -- what is kept is saved where a name is given
-  left_saved : (save : Option (List ℕ)) (left : Option (Vec ℕ Z)) (wanted : Bool) → wanted ≡ is_some save → KeepsLeft wanted x left → SavesFile left save old new → SavesLeft save x old new
+  pub left_saved : (save : Option (List ℕ)) (left : Option (Vec ℕ Z)) (wanted : Bool) → wanted ≡ is_some save → KeepsLeft wanted x left → SavesFile left save old new → SavesLeft save x old new
   left_saved None None wanted is keeps saves = saves
   left_saved None (Some file) wanted is keeps saves = saves
   left_saved (Some name) None wanted is keeps saves = absurd (subst (λ (b : Bool). KeepsLeft {Z = Z} b x None) is keeps)

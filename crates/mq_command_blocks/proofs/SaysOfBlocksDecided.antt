@@ -12,17 +12,17 @@ use Rattle.mq_command_blocks.specs.SaysOfBlocks.{SaysOfBlocks, TextDecides, bad_
 use Rattle.mq_command_blocks.specs.SaysOfBlocks as blocks_says
 use Rattle.mq_cli.specs.declared.command.BlocksOptions.{BlocksOptions}
 
-still_unloaded : (wanted result : ℕ) (file : List ℕ) (old new : FilesState) (status : ℕ) (text : List ℕ) → IsNotLoaded file old new status text → IsUnlessFailed status result → IsUnlessFailed wanted result
+pub still_unloaded : (wanted result : ℕ) (file : List ℕ) (old new : FilesState) (status : ℕ) (text : List ℕ) → IsNotLoaded file old new status text → IsUnlessFailed status result → IsUnlessFailed wanted result
 still_unloaded wanted result file old new _ _ (load_failed same rose tried) ends = still-fault wanted result ends
 still_unloaded wanted result file old new _ _ (load_too_long same over faults takes tried) ends = still-fault wanted result ends
 still_unloaded wanted result file old new _ _ (load_memory same faults tried) ends = still-memory wanted result ends
 
-still_unsaved : (wanted result : ℕ) (name : List ℕ) (old new : FilesState) (status : ℕ) (text : List ℕ) → IsNotSaved name old new status text → IsUnlessFailed status result → IsUnlessFailed wanted result
+pub still_unsaved : (wanted result : ℕ) (name : List ℕ) (old new : FilesState) (status : ℕ) (text : List ℕ) → IsNotSaved name old new status text → IsUnlessFailed status result → IsUnlessFailed wanted result
 still_unsaved wanted result name old new _ _ (save_failed other rose taken tried) ends = still-fault wanted result ends
 still_unsaved wanted result name old new _ _ (save_memory same faults taken tried) ends = still-memory wanted result ends
 
 -- a name holds one text
-one_held : (held : Option Held) (name bytes other : List ℕ) → Tells held name (Some bytes) → Holds held name other → bytes ≡ other
+pub one_held : (held : Option Held) (name bytes other : List ℕ) → Tells held name (Some bytes) → Holds held name other → bytes ≡ other
 one_held None name bytes other tells holds = absurd tells
 one_held (Some held) name bytes other tells holds = let same : ◌≡◌ {A = Option (List ℕ)} (Some bytes) (Some other) = sym tells ∙ holds in cc
 

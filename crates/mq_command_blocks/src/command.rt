@@ -33,8 +33,8 @@ fn say_refused<K: Sink>(alloc: Global, line: u32, cause: BlockTextCause, out: &m
     }
 }
 
-// Prints why a block text is not run, or that memory ran out for that.
-fn say_refusal<K: Sink>(alloc: Global, refusal: BlockTextRefusal, out: &mut K) -> u8
+/// Prints why a block text is not run, or that memory ran out for that.
+pub fn say_refusal<K: Sink>(alloc: Global, refusal: BlockTextRefusal, out: &mut K) -> u8
     ensures { EndsRefused refusal result (K.state out.old) (K.state out.new) }
 {
     match refusal {
@@ -43,8 +43,8 @@ fn say_refusal<K: Sink>(alloc: Global, refusal: BlockTextRefusal, out: &mut K) -
     }
 }
 
-// Saves a file under a name, where both are given.
-fn save_file<F: Files, K: Sink>(
+/// Saves a file under a name, where both are given. If that fails, prints why and returns the status.
+pub fn save_file<F: Files, K: Sink>(
     file: Option<Vec<u8>>,
     name: Option<&str>,
     files: &mut F,

@@ -27,8 +27,8 @@ fn filled_blocks(alloc: Global, fills: &[Option<u8>]) -> Result<Vec<BlockNo>, Ou
     Ok(blocks)
 }
 
-// A block of this byte.
-fn filled(alloc: Global, byte: u8) -> Result<Block, OutOfMemory>
+/// A block of this byte.
+pub fn filled(alloc: Global, byte: u8) -> Result<Block, OutOfMemory>
     ensures { IfOk result (λ b. b ≡ content_of byte) }
 {
     let mut block = Block::zeroed(alloc)?;

@@ -10,5 +10,8 @@ mod line;
 mod live;
 mod restart;
 
-pub use command::run_blocks;
+pub use command::{run_blocks, save_file, say_refusal};
 pub use commit::{TextRefusal, commit_text};
+pub use items::filled;
+pub use live::{live_blocks, live_marks};
+pub use restart::only_memory;

@@ -42,7 +42,7 @@ pub fn live_blocks(
     homes: &[Option<Block>],
     marks: &[bool],
 ) -> Result<Vec<(BlockNo, u8)>, OutOfMemory>
-    requires homes { length homes.now ≡ 256 }
+    requires homes { 256 ≤ length homes.now }
     requires marks { length marks.now ≡ 256 }
     ensures { IfOk result (λ v. (m : Map)
         → AreMarks m marks.now

@@ -25,8 +25,8 @@ pub struct Standing {
     pub blocks: Vec<Option<Block>>,
 }
 
-// Where the image is readable, only memory can run out.
-fn only_memory(fault: ImageFault) -> OutOfMemory
+/// Where the image is readable, only memory can run out.
+pub fn only_memory(fault: ImageFault) -> OutOfMemory
     requires { fault ≡ ImageFault.OutOfMemory }
 {
     match fault {

@@ -13,7 +13,7 @@ use Rattle.mq_cli.specs.Asked.{Words, asked_of, run}
 use Rattle.mq_cli.specs.declared.command.RunFlags.{RunFlags}
 use Rattle.mqfs.specs.Program.{IsToSay}
 use Rattle.mqfs.specs.Ran.{IsRan, IsRanWhole}
-use Rattle.mqfs.specs.Says.{failing}
+use Rattle.mqfs.specs.Says.{failing, run_ending}
 use Rattle.mqfs.proofs.Ran.{ran_told}
 
 -- the test finds a group for which memory ran out
@@ -32,7 +32,7 @@ module _ (image : List ℕ) (names : List (List ℕ)) (options : RunFlags) (file
   whole : options.cut ≡ None → options.fail ≡ None → IsRan image names options 0 files new_files old new → IsRanWhole image names options files new_files old new
   whole no_cut none ran = record {
     ran = ran;
-    complete = ran.promise.complete no_cut (ap (option_map failing) none) (λ wanted. let six = wanting-status ran.r wanted in let zero = ran.status in absurd (omega (arith, six, zero)));
+    complete = ran.promise.complete (ap run_ending no_cut) (ap (option_map failing) none) (λ wanted. let six = wanting-status ran.r wanted in let zero = ran.status in absurd (omega (arith, six, zero)));
   }
 
   pub whole_told : (words : Words) (status : ℕ) (text : List ℕ) (result : ℕ) → asked_of words ≡ Some (run image names options) → IsToSay words files new_files status text → EndsWith status text result old new → options.cut ≡ None → options.fail ≡ None → IsUnlessFailed 0 result

@@ -6,7 +6,7 @@ use Rattle.std.specs.Prelude.{nat_eq, option_to_list}
 use Rattle.std.specs.Option.{unwrap_or}
 use Rattle.mq_block_text.specs.declared.item.BlockItem.{BlockItem}
 use Rattle.mq_block_trace.specs.Prefixes.{IsPrefixAt}
-use Rattle.mq_cli.specs.Asked.{Asked, Words, asked_of, audit, blocks, cat, check, dump, format, gen, help, ls, recover, run, version}
+use Rattle.mq_cli.specs.Asked.{Asked, Words, asked_of, audit, blocks, cat, check, dump, format, gen, help, ls, recover, replicate, run, version}
 use Rattle.mq_cli.specs.declared.command.BlocksOptions.{BlocksOptions}
 use Rattle.mq_cli.specs.declared.command.RunFlags.{RunFlags}
 use Rattle.mq_command_audit.specs.Audits.{Audits}
@@ -27,6 +27,9 @@ use Rattle.mq_command_images.specs.Recovers as recovers
 use Rattle.mq_command_io.specs.Ending.{EndsWith, IsLoaded, IsNotLoaded, IsNotSaved, SaysOf, fault_line, load_failed, load_memory, load_too_long, memory_line, save_failed, save_line, save_memory, too_long_line}
 use Rattle.mq_command_io.specs.Ending as ending
 use Rattle.mq_command_io.proofs.Ending.{not-loaded-same}
+use Rattle.mq_command_replicate.specs.Replicas.{IsReplicaOf}
+use Rattle.mq_command_replicate.specs.Replicates.{Replicates}
+use Rattle.mq_command_replicate.specs.Replicates as replicates
 use Rattle.mq_command_run.specs.RunsScripts.{AreLoaded, RefusesRunning, RefusesScript, RefusesScripts, Runs, are_wanting, ran}
 use Rattle.mq_command_run.specs.RunsScripts as runs
 use Rattle.mq_image.specs.File.{DriveImage, image_bytes}
@@ -134,6 +137,22 @@ of-blocks file options save trace old new status text (blocks_says.trace_not_sav
     ends_at_save (option_to_list save) [] name mid kept (ap (λ (o : Option (List ℕ)). option_to_list save ++ option_to_list o) asks) (bytes, mid, load, refl) (image-given file options bytes lines p x old load.holds is at by save trace mid kept saves) not
 of-blocks file options save trace old new _ _ (blocks_says.wants_memory bytes load) = by-cause (blocks file options save trace) file [] refl old new 6 memory_line bytes load (inr (inr (refl, refl)))
 
+-- ---- `replicate`
+
+replica-given : (file : List ℕ) (seed : Option ℕ) (text : List ℕ) (lines : List (List BlockItem)) (x : DriveImage) (old : FilesState) → Holds old.contents file text → IsBlockText text lines → IsReplicaOf lines x
+    → (save : Option (List ℕ)) (mid new : FilesState) → SavesLeft save x mid new → AreGiven (replicate file seed save) old (option_to_list save) mid new
+replica-given file seed text lines x old holds is of None mid new saves = saves
+replica-given file seed text lines x old holds is of (Some name) mid new saves = (image_bytes x, new, (text, lines, x, holds, is, of, refl, refl), saves, refl)
+
+of-replicate : (file : List ℕ) (seed : Option ℕ) (save : Option (List ℕ)) (old new : FilesState) (status : ℕ) (text : List ℕ) → Replicates file save old new status text → Course (replicate file seed save) old new status text
+of-replicate file seed save old new _ _ (replicates.printed bytes lines x mid load is of saves) =
+    ends_whole mid (bytes, mid, load, refl) (replica-given file seed bytes lines x old load.holds is of save mid new saves) (inl refl)
+of-replicate file seed save old new _ _ (replicates.refused bytes line cause load refuses) = by-cause (replicate file seed save) file [] refl old new 2 _ bytes load (inl refl)
+of-replicate file seed save old new status text (replicates.not_loaded not) = by-load (replicate file seed save) file [] refl old new status text not
+of-replicate file seed save old new status text (replicates.not_saved bytes lines name mid asks load is not) =
+    ends_at_save [] [] name mid mid (ap (λ (o : Option (List ℕ)). option_to_list o) asks) (bytes, mid, load, refl) refl not
+of-replicate file seed save old new _ _ (replicates.wants_memory bytes load) = by-cause (replicate file seed save) file [] refl old new 6 memory_line bytes load (inr (inr (refl, refl)))
+
 -- ---- `format`, `recover`, `gen`
 
 of-format : (image : List ℕ) (queues area meta zone : ℕ) (old new : FilesState) (status : ℕ) (text : List ℕ) → Formats (numbers queues area meta zone) image old new status text → Course (format image queues area meta zone) old new status text
@@ -234,6 +253,7 @@ course (gen seed threads groups save) old new status text says = of-gen seed thr
 course (dump image) old new status text says = of-image (dump image) image refl refl Dumps dumps old new status text says
 course (check image) old new status text says = of-image (check image) image refl refl Checks checks old new status text says
 course (audit trace) old new status text says = of-audit trace old new status text says
+course (replicate file seed save) old new status text says = of-replicate file seed save old new status text says
 course (help topic) old new status text says = of-line-only (help topic) refl refl _ old new status text says
 course version old new status text says = of-line-only version refl refl _ old new status text says
 

@@ -20,6 +20,8 @@ use Rattle.mq_command_images.specs.Recovers as recovers
 use Rattle.mq_command_images.specs.declared.formatting.Numbers.{Numbers}
 use Rattle.mq_command_io.specs.Ending.{EndsWith, IsLoaded, IsNotLoaded, IsNotSaved, SaysOf, load_failed, load_memory, load_too_long, save_failed, save_memory}
 use Rattle.mq_command_io.specs.Ending as ending
+use Rattle.mq_command_replicate.specs.Replicates.{Replicates}
+use Rattle.mq_command_replicate.specs.Replicates as replicates
 use Rattle.mq_command_run.specs.RunsScripts.{AreLoaded, HoldBadScript, HoldScripts, RefusesRunning, RefusesScript, RefusesScripts, Runs, are_wanting, no_run, no_scripts, not_run, ran, run_status}
 use Rattle.mq_command_run.specs.RunsScripts as runs
 use Rattle.mq_image.specs.Drives.{IsRead}
@@ -38,7 +40,7 @@ use Rattle.mq_outside.specs.Outside.{FilesState, Held, Holds, SinkState, Tells}
 use Rattle.mq_run_laws.specs.Images.{KeepsPromise}
 use Rattle.mq_script.specs.Scripts.{Script}
 use Rattle.mq_tree.specs.Volume.{Path}
-use Rattle.mq_cli.specs.Asked.{Asked, Words, asked_of, audit, blocks, cat, check, dump, format, gen, help, ls, recover, run, version}
+use Rattle.mq_cli.specs.Asked.{Asked, Words, asked_of, audit, blocks, cat, check, dump, format, gen, help, ls, recover, replicate, run, version}
 use Rattle.mq_cli.specs.Help.{help_text, version_line}
 use Rattle.mq_cli.specs.declared.command.RunFlags.{RunFlags}
 use Rattle.mqfs.specs.Decided.{ChainsDecide, Decides, FileDecides, ImageDecides, IsCovered, IsRunnable, NumbersDecide, RunDecides, StandingDecides, TraceDecides, TreeDecides, VolumeDecides, above_limit, bad_numbers, bad_script, bad_trace, good_numbers, good_trace, has_chains, has_file, has_no_file, has_standing, has_tree, is_no_image, no_chains, no_drive, no_image, no_standing, no_tree, no_volume, no_volume_there, none_stands, too_many, unreadable}
@@ -129,7 +131,7 @@ module _ (held : Held) (files : FilesState) (told : files.contents ≡ Some held
       done bytes x _ _ tells read (not_recovered e refuses) = no_standing (unreadable bytes x e tells read refuses)
   recovers-covered name limit pick new status text (recovers.Recovers.unsaved bytes mid load not) = inr (unsaved name mid new status text not)
 
-  -- ---- `format`, `gen`, `blocks`, `audit`
+  -- ---- `format`, `gen`, `blocks`, `replicate`, `audit`
 
   formats-covered : (n : Numbers) (name : List ℕ) (new : FilesState) (status : ℕ) (text : List ℕ) → Formats n name files new status text → NumbersDecide n status ⊎ IsFailing status
   formats-covered n name new _ _ (formatted g x are empty save) = inl (good_numbers g are)
@@ -149,6 +151,13 @@ module _ (held : Held) (files : FilesState) (told : files.contents ≡ Some held
   blocks-covered file options save trace new status text (blocks_says.SaysOfBlocks.not_saved bytes lines name loaded some load is not) = inr (unsaved name loaded new status text not)
   blocks-covered file options save trace new status text (blocks_says.SaysOfBlocks.trace_not_saved bytes lines name p x loaded kept some load is at by left not) = inr (unsaved name kept new status text not)
   blocks-covered file options save trace new _ _ (blocks_says.SaysOfBlocks.wants_memory bytes load) = inr (inr refl)
+
+  replicates-covered : (file : List ℕ) (save : Option (List ℕ)) (new : FilesState) (status : ℕ) (text : List ℕ) → Replicates file save files new status text → blocks_says.TextDecides file (Some held) status ⊎ IsFailing status
+  replicates-covered file save new _ _ (replicates.Replicates.printed bytes lines x loaded load is of saves) = inl (good_text bytes lines (tells file bytes loaded load) is)
+  replicates-covered file save new _ _ (replicates.Replicates.refused bytes line cause load refuses) = inl (bad_text bytes line cause (tells file bytes new load) refuses)
+  replicates-covered file save new status text (replicates.Replicates.not_loaded not) = inr (unloaded file files new status text not)
+  replicates-covered file save new status text (replicates.Replicates.not_saved bytes lines name loaded some load is not) = inr (unsaved name loaded new status text not)
+  replicates-covered file save new _ _ (replicates.Replicates.wants_memory bytes load) = inr (inr refl)
 
   audits-covered : (trace : List ℕ) (new : FilesState) (status : ℕ) (text : List ℕ) → SaysOf Audits trace files new status text → TraceDecides trace (Some held) status ⊎ IsFailing status
   audits-covered trace new _ _ (ending.SaysOf.loaded bytes load (accepts t drawn done waiting least greatest is allowed summary)) = inl (good_trace bytes t (tells trace bytes new load) is)
@@ -253,6 +262,7 @@ module _ (held : Held) (files : FilesState) (told : files.contents ≡ Some held
   covered (dump image) new status text says = decided (dumps-covered image new status text says)
   covered (check image) new status text says = decided (checks-covered image new status text says)
   covered (audit trace) new status text says = decided (audits-covered trace new status text says)
+  covered (replicate file seed save) new status text says = decided (replicates-covered file save new status text says)
   covered (help topic) new status text says = inl (inl (only-said (help_text topic) new status text says))
   covered version new status text says = inl (inl (only-said version_line new status text says))
 

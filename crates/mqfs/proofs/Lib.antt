@@ -6,3 +6,4 @@ pub mod Ran
 pub mod Complete
 pub mod Covered
 pub mod ProgramTold
+pub mod Replicated

@@ -68,7 +68,7 @@ module _ (words : Words) (files new_files : FilesState) (status : ℕ) (text : L
 
   -- what was refused, with its line
   bad_said : new.contents ≡ appended old.contents text → RefusedWords words files new_files text → IsRefusedText words files old new ⊎ (IsMisreadTrace words files old new ⊎ IsEndedRun 2 words files new_files old new)
-  bad_said whole (inl t) = inl (t.0, t.1, t.2, t.3, t.4, t.5, t.6, t.7, t.8, t.9, whole ∙ ap (appended old.contents) t.10)
+  bad_said whole (inl t) = inl (t.0, t.1, t.2, t.3, t.4, t.5, t.6, whole ∙ ap (appended old.contents) t.7)
   bad_said whole (inr (inl t)) = inr (inl (t.0, t.1, t.2, t.3, t.4, t.5, whole ∙ ap (appended old.contents) t.6))
   bad_said whole (inr (inr t)) = inr (inr (t.0, t.1, t.2, text, t.3, t.4, whole))
 
@@ -132,7 +132,7 @@ module _ (words : Words) (files new_files : FilesState) (status : ℕ) (text : L
 
 -- ---- `blocks`, done
 
-zero-or : (file : List ℕ) (old new : FilesState) (status : ℕ) (text : List ℕ) → IsNotLoaded file old new status text → status ≡ 0 → ⊥
+pub zero-or : (file : List ℕ) (old new : FilesState) (status : ℕ) (text : List ℕ) → IsNotLoaded file old new status text → status ≡ 0 → ⊥
 zero-or file old new _ _ (load_failed same rose tried) zero = omega (arith, zero)
 zero-or file old new _ _ (load_too_long same over faults takes tried) zero = omega (arith, zero)
 zero-or file old new _ _ (load_memory same faults tried) zero = omega (arith, zero)

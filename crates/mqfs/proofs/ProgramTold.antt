@@ -10,6 +10,8 @@ use Rattle.mq_command_gen.specs.Generates.{Generates, SavesUnder, generated}
 use Rattle.mq_command_gen.specs.Generates as generates
 use Rattle.mq_command_images.specs.Recovers.{Recovers, RefusesRecovery, not_recovered, recovered, unsaved}
 use Rattle.mq_command_images.specs.Recovers as recovers
+use Rattle.mq_command_replicate.specs.Replicates.{Replicates}
+use Rattle.mq_command_replicate.specs.Replicates as replicates
 use Rattle.mq_command_run.specs.RunsScripts.{AreLoaded, RefusesRunning, RefusesScript, RefusesScripts, Runs, are_wanting, ran}
 use Rattle.mq_command_run.specs.RunsScripts as runs
 use Rattle.mq_command_images.specs.declared.formatting.Numbers.{Numbers}
@@ -27,10 +29,10 @@ use Rattle.mq_command_blocks.specs.Left.{SavesLeft, SavesTrace}
 use Rattle.mq_command_blocks.specs.SaysOfBlocks.{SaysOfBlocks, printed, refused}
 use Rattle.mq_command_blocks.specs.SaysOfBlocks as blocks_says
 use Rattle.mq_tree.specs.Volume.{Path}
-use Rattle.mq_cli.specs.Asked.{Asked, Words, asked_of, audit, blocks, cat, check, dump, format, gen, help, ls, recover, run, version}
+use Rattle.mq_cli.specs.Asked.{Asked, Words, asked_of, audit, blocks, cat, check, dump, format, gen, help, ls, recover, replicate, run, version}
 use Rattle.mq_cli.specs.declared.command.BlocksOptions.{BlocksOptions}
 use Rattle.mq_cli.specs.declared.command.RunFlags.{RunFlags}
-use Rattle.mqfs.specs.Program.{AreUnknown, HoldsTooMuch, IsStatus, IsToSay, KeepsOthers, TakesUpTo, loaded_by, loaded_names, no_command, no_memory, of_command, saved_by, saved_names, usage_line}
+use Rattle.mqfs.specs.Program.{AreUnknown, AskText, HoldsTooMuch, IsStatus, IsToSay, KeepsOthers, TakesUpTo, loaded_by, loaded_names, no_command, no_memory, of_command, saved_by, saved_names, usage_line}
 use Rattle.mqfs.specs.Says.{Says, SaysOnly, asked_workload, numbers, run_options, said}
 
 -- ---- names
@@ -286,6 +288,24 @@ told_blocks file options save trace old new status text (blocks_says.trace_not_s
     (told_not_saved (both save (Some name)) (file ∷ []) name (the-last save name) old kept new status text left.names left.faults not))
 told_blocks file options save trace old new _ _ (blocks_says.wants_memory bytes load) = weaker (both save trace) (file ∷ []) _ _ old new 6 (memory (both save trace) (file ∷ []) old new (keeps (both save trace) old new load.contents) load.faults)
 
+-- ---- `replicate`
+
+told_image_left : (save : Option (List ℕ)) (file bytes : List ℕ) (x : DriveImage) (old mid new : FilesState) → IsLoaded file bytes old mid → SavesLeft save x mid new → Told (option_to_list save) (file ∷ []) Nothing Nothing Nothing old new 0
+told_image_left None file bytes x old mid new load same =
+    subst (λ (f : FilesState). Told [] (file ∷ []) Nothing Nothing Nothing old f 0) (sym same) (done [] (file ∷ []) old mid load.contents load.faults (one-load [] file old.taken mid.taken load.takes))
+told_image_left (Some name) file bytes x old mid new load save =
+    told_saved (name ∷ []) (file ∷ []) name (image_bytes x) (the-first name []) old mid new (keeps (name ∷ []) old mid load.contents) load.faults (one-load [] file old.taken mid.taken load.takes) save
+
+told_replicate : (file : List ℕ) (save : Option (List ℕ)) (old new : FilesState) (status : ℕ) (text : List ℕ) → Replicates file save old new status text → Told (option_to_list save) (file ∷ []) Nothing (BadText file old text) Nothing old new status
+told_replicate file save old new _ _ (replicates.printed bytes lines x mid load is of saves) = weaker (option_to_list save) (file ∷ []) _ _ old new 0 (told_image_left save file bytes x old mid new load saves)
+told_replicate file save old new _ _ (replicates.refused bytes line cause load refuses) = told_bad (option_to_list save) file bytes _ old new load (bytes, line, cause, load.holds, refuses, refl)
+told_replicate file save old new status text (replicates.not_loaded not) = weaker (option_to_list save) (file ∷ []) _ _ old new status (told_not_loaded (option_to_list save) [] file old new status text not)
+told_replicate file save old new status text (replicates.not_saved bytes lines name mid asks load is not) =
+    weaker (option_to_list save) (file ∷ []) _ _ old new status
+    (subst (λ (o : Option (List ℕ)). Told (option_to_list o) (file ∷ []) Nothing Nothing Nothing old new status) (sym asks)
+    (told_not_saved (name ∷ []) (file ∷ []) name (the-first name []) old mid new status text (keeps (name ∷ []) old mid load.contents) load.faults not))
+told_replicate file save old new _ _ (replicates.wants_memory bytes load) = weaker (option_to_list save) (file ∷ []) _ _ old new 6 (memory (option_to_list save) (file ∷ []) old new (keeps (option_to_list save) old new load.contents) load.faults)
+
 -- ---- `audit`
 
 -- a line of what the file holds is not in its form, and this is its line
@@ -482,6 +502,7 @@ BadOf (gen seed threads groups save) old new text = Nothing
 BadOf (dump image) old new text = Nothing
 BadOf (check image) old new text = Nothing
 BadOf (audit trace) old new text = BadTrace trace old text
+BadOf (replicate file seed save) old new text = BadText file old text
 BadOf (help topic) old new text = Nothing
 BadOf version old new text = Nothing
 
@@ -501,16 +522,17 @@ told (gen seed threads groups save) old new status text says = told_gen (asked_w
 told (dump image) old new status text says = told_image (SaysOfImage Dumps) (statuses Dumps dumps) [] [] image old new status text says
 told (check image) old new status text says = told_image (SaysOfImage Checks) (statuses Checks checks) [] [] image old new status text says
 told (audit trace) old new status text says = told_audit trace old new status text says
+told (replicate file seed save) old new status text says = told_replicate file save old new status text says
 told (help topic) old new status text says = told_only _ old new status text says
 told version old new status text says = told_only _ old new status text says
 
 -- ---- words
 
--- the words are those of `blocks`, and the file holds bytes that are refused
+-- the words ask for something of a block text, and the file holds bytes that are refused
 abbrev pub BadWords : Words → (old : FilesState) → (text : List ℕ) → Type 0
 BadWords words old text =
-    (file : List ℕ) × (options : BlocksOptions) × (save trace : Option (List ℕ)) × (bytes : List ℕ) × (line : ℕ) × (cause : BlockTextCause)
-    × (asked_of words ≡ Some (blocks file options save trace)) × Holds old.contents file bytes × RefusesText bytes line cause × (text ≡ refused_line line cause)
+    (file bytes : List ℕ) × (line : ℕ) × (cause : BlockTextCause)
+    × AskText words file × Holds old.contents file bytes × RefusesText bytes line cause × (text ≡ refused_line line cause)
 
 -- the words are those of `run`, which ended with this status
 abbrev pub RunWords : (status : ℕ) → Words → (old new : FilesState) → (text : List ℕ) → Type 0
@@ -534,7 +556,7 @@ abbrev pub SaysWords : Words → (old new : FilesState) → (status : ℕ) → (
 SaysWords words old new status text = Told (saved_by (asked_of words)) (loaded_by (asked_of words)) (NoWords words old new text) (RefusedWords words old new text) (RunWords 5 words old new text) old new status
 
 bad_words : (words : Words) (a : Asked) (old new : FilesState) (text : List ℕ) → asked_of words ≡ Some a → BadOf a old new text → RefusedWords words old new text
-bad_words words (blocks file options save trace) old new text is bad = inl (file, options, save, trace, bad.0, bad.1, bad.2, is, bad.3, bad.4, bad.5)
+bad_words words (blocks file options save trace) old new text is bad = inl (file, bad.0, bad.1, bad.2, inl (options, save, trace, is), bad.3, bad.4, bad.5)
 bad_words words (format image queues area meta zone) old new text is bad = absurd bad
 bad_words words (run image scripts options) old new text is bad = inr (inr (image, scripts, options, is, bad))
 bad_words words (recover image cut pick) old new text is bad = absurd bad
@@ -544,6 +566,7 @@ bad_words words (gen seed threads groups save) old new text is bad = absurd bad
 bad_words words (dump image) old new text is bad = absurd bad
 bad_words words (check image) old new text is bad = absurd bad
 bad_words words (audit trace) old new text is bad = inr (inl (trace, bad.0, bad.1, is, bad.2, bad.3, bad.4))
+bad_words words (replicate file seed save) old new text is bad = inl (file, bad.0, bad.1, bad.2, inr (seed, save, is), bad.3, bad.4, bad.5)
 bad_words words (help topic) old new text is bad = absurd bad
 bad_words words version old new text is bad = absurd bad
 
@@ -558,6 +581,7 @@ ended_words words (gen seed threads groups save) old new text is ended = absurd 
 ended_words words (dump image) old new text is ended = absurd ended
 ended_words words (check image) old new text is ended = absurd ended
 ended_words words (audit trace) old new text is ended = absurd ended
+ended_words words (replicate file seed save) old new text is ended = absurd ended
 ended_words words (help topic) old new text is ended = absurd ended
 ended_words words version old new text is ended = absurd ended
 

@@ -5,13 +5,14 @@ use Rattle.mq_blocks.specs.declared.geometry.Geometry.{Geometry}
 use Rattle.mq_block_text.specs.declared.item.BlockItem.{BlockItem}
 use Rattle.mq_block_trace.specs.Prefixes.{IsPrefixAt}
 use Rattle.mq_block_trace.specs.Written.{IsTraced}
-use Rattle.mq_cli.specs.Asked.{Asked, Words, asked_of, audit, blocks, cat, check, dump, format, gen, help, ls, recover, run, version}
+use Rattle.mq_cli.specs.Asked.{Asked, Words, asked_of, audit, blocks, cat, check, dump, format, gen, help, ls, recover, replicate, run, version}
 use Rattle.mq_command_blocks.specs.Blocks.{IsBlockText}
 use Rattle.mq_command_blocks.specs.Picked.{IsRunBy, pick_of}
 use Rattle.mq_command_gen.specs.Generates.{IsPlayOf}
 use Rattle.mq_command_gen.specs.declared.generated.Generated.{Generated}
 use Rattle.mq_command_images.specs.Commands.{numbers_of}
 use Rattle.mq_command_images.specs.Recovers.{IsRecoveredBy}
+use Rattle.mq_command_replicate.specs.Replicas.{IsReplicaOf}
 use Rattle.mq_command_io.specs.Ending.{EndsWith, IsLoaded, IsNotLoaded, IsNotSaved, IsSaved, memory_line}
 use Rattle.mq_command_run.specs.RunsScripts.{AreLoaded}
 use Rattle.mq_image.specs.Drives.{IsRead}
@@ -65,6 +66,10 @@ Gives (recover image cut pick) files name bytes =
 Gives (gen seed threads groups save) files name bytes =
     (made : Generated) × (save ≡ Some name) × IsPlayOf (asked_workload seed threads groups) save made
     × (bytes ≡ made.file.items)
+Gives (replicate file seed save) files name bytes =
+    (text : List ℕ) × (lines : List (List BlockItem)) × (x : DriveImage)
+    × Holds files.contents file text × IsBlockText text lines × IsReplicaOf lines x
+    × (save ≡ Some name) × (bytes ≡ image_bytes x)
 Gives _ files name bytes = ⊥
 
 -- each of these names was saved with what the command gives it, one after another

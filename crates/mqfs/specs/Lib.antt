@@ -4,3 +4,4 @@ pub mod Played
 pub mod Program
 pub mod Says
 pub mod Ran
+pub mod Replicated

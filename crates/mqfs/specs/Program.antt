@@ -13,7 +13,7 @@ use Rattle.mq_command_blocks.specs.Blocks.{IsBlockText, output_of, refused_line}
 use Rattle.mq_block_trace.specs.Prefixes.{IsPrefixAt}
 use Rattle.mq_command_blocks.specs.Left.{SavesLeft, SavesTrace}
 use Rattle.mq_command_blocks.specs.Picked.{IsRunBy, pick_of}
-use Rattle.mq_cli.specs.Asked.{Asked, Words, asked_of, audit, blocks, cat, check, dump, format, gen, help, ls, recover, run, version}
+use Rattle.mq_cli.specs.Asked.{Asked, Words, asked_of, audit, blocks, cat, check, dump, format, gen, help, ls, recover, replicate, run, version}
 use Rattle.mq_cli.specs.declared.command.BlocksOptions.{BlocksOptions}
 use Rattle.mq_cli.specs.declared.command.RunFlags.{RunFlags}
 use Rattle.mqfs.specs.Says.{Says, run_options}
@@ -23,7 +23,7 @@ abbrev pub AreUnknown : Words → Type 0
 AreUnknown words = asked_of words ≡ None
 
 abbrev pub usage_line : List ℕ
-usage_line = codes "usage: mqfs blocks|format|run|recover|ls|cat|gen|dump|check|audit\n"
+usage_line = codes "usage: mqfs blocks|format|run|recover|ls|cat|gen|dump|check|audit|replicate\n"
 
 -- What there is to say to the words, and with which status: the usage line, what there is to say of what
 -- they ask, or that memory ran out to read them.
@@ -59,12 +59,19 @@ IsDone file options save trace files new_files old new =
     × SavesTrace trace lines options.cut kept new_files
     × (new.contents ≡ appended old.contents (output_of lines p))
 
--- The words are those of `blocks`, and the file holds bytes that are refused. The line of that was said.
+-- the words ask for something of a block text, which this file holds
+abbrev pub AskText : Words → (file : List ℕ) → Type 0
+AskText words file =
+    ((options : BlocksOptions) × (save trace : Option (List ℕ))
+    × (asked_of words ≡ Some (blocks file options save trace)))
+    ⊎ ((seed : Option ℕ) × (save : Option (List ℕ)) × (asked_of words ≡ Some (replicate file seed save)))
+
+-- The words are those of `blocks` or `replicate`, and the file holds bytes that are refused. The line of that
+-- was said.
 abbrev pub IsRefusedText : Words → (files : FilesState) → (old new : SinkState) → Type 0
 IsRefusedText words files old new =
-    (file : List ℕ) × (options : BlocksOptions) × (save trace : Option (List ℕ)) × (bytes : List ℕ)
-    × (line : ℕ) × (cause : BlockTextCause)
-    × (asked_of words ≡ Some (blocks file options save trace)) × Holds files.contents file bytes
+    (file bytes : List ℕ) × (line : ℕ) × (cause : BlockTextCause)
+    × AskText words file × Holds files.contents file bytes
     × RefusesText bytes line cause × (new.contents ≡ appended old.contents (refused_line line cause))
 
 -- The words are those of `audit`, and the file holds bytes of which a line is not in its form. The line of
@@ -96,6 +103,7 @@ loaded_names (gen seed threads groups save) = []
 loaded_names (dump image) = image ∷ []
 loaded_names (check image) = image ∷ []
 loaded_names (audit trace) = trace ∷ []
+loaded_names (replicate file seed save) = file ∷ []
 loaded_names (help topic) = []
 loaded_names version = []
 
@@ -115,6 +123,7 @@ saved_names (gen seed threads groups save) = option_to_list save
 saved_names (dump image) = []
 saved_names (check image) = []
 saved_names (audit trace) = []
+saved_names (replicate file seed save) = option_to_list save
 saved_names (help topic) = []
 saved_names version = []
 

@@ -1,20 +1,23 @@
 -- What there is to say of what words ask, and with which status: one definition for each command.
-use Rattle.std.specs.Prelude.{◌≡◌, ℕ, List, option_map}
+use Rattle.std.specs.Prelude.{◌≡◌, ℕ, List, Option, Some, None, option_map}
 use Rattle.std.specs.Option.{unwrap_or}
 use Rattle.mq_command_audit.specs.Audits.{Audits}
 use Rattle.mq_command_check.specs.Checks.{Checks}
 use Rattle.mq_command_images.specs.Commands.{Dumps, Formats, Lists, SaysOfImage, ShowsFile}
 use Rattle.mq_command_gen.specs.Generates.{Generates}
 use Rattle.mq_command_images.specs.Recovers.{Recovers}
+use Rattle.mq_command_replicate.specs.Replicates.{Replicates}
 use Rattle.mq_command_run.specs.RunsScripts.{Runs}
 use Rattle.mq_command_images.specs.declared.formatting.Numbers.{Numbers}
 use Rattle.mq_command_gen.specs.declared.workload.Workload.{Workload}
 use Rattle.mq_command_io.specs.Ending.{SaysOf}
+use Rattle.mq_image_run.specs.declared.options.Ending.{Ending}
+use Rattle.mq_image_run.specs.declared.options.Ending.TheVariants.{Checkpoint, Cut}
 use Rattle.mq_image_run.specs.declared.options.RunOptions.{RunOptions}
 use Rattle.mq_image_ops.specs.declared.ports.Failing.{Failing}
 use Rattle.mq_outside.specs.Outside.{FilesState}
 use Rattle.mq_command_blocks.specs.SaysOfBlocks.{SaysOfBlocks}
-use Rattle.mq_cli.specs.Asked.{Asked, audit, blocks, cat, check, dump, format, gen, help, ls, recover, run, version}
+use Rattle.mq_cli.specs.Asked.{Asked, audit, blocks, cat, check, dump, format, gen, help, ls, recover, replicate, run, version}
 use Rattle.mq_cli.specs.Help.{help_text, version_line}
 use Rattle.mq_cli.specs.declared.command.FailingCommand.{FailingCommand}
 use Rattle.mq_cli.specs.declared.command.RunFlags.{RunFlags}
@@ -32,9 +35,14 @@ asked_workload seed threads groups = record { seed = seed; threads = threads; gr
 abbrev pub failing : FailingCommand → Failing
 failing f = record { port = f.port; command = f.command }
 
+-- a run without a cut ends with a checkpoint
+abbrev pub run_ending : (cut : Option ℕ) → Ending
+run_ending None = Checkpoint
+run_ending (Some k) = Cut k
+
 -- draws come from 0 where no pick is given
 abbrev pub run_options : RunFlags → RunOptions
-run_options o = record { cut = o.cut; pick = unwrap_or o.pick 0; fail = option_map failing o.fail }
+run_options o = record { ending = run_ending o.cut; pick = unwrap_or o.pick 0; fail = option_map failing o.fail }
 
 -- what there is to say of what is asked, by what the files show before and after
 abbrev pub Says : Asked → (old new : FilesState) → (status : ℕ) → (text : List ℕ) → Type 0
@@ -53,5 +61,6 @@ Says (gen seed threads groups save) old new status text =
 Says (dump image) old new status text = SaysOf (SaysOfImage Dumps) image old new status text
 Says (check image) old new status text = SaysOf (SaysOfImage Checks) image old new status text
 Says (audit trace) old new status text = SaysOf Audits trace old new status text
+Says (replicate file seed save) old new status text = Replicates file save old new status text
 Says (help topic) old new status text = SaysOnly (help_text topic) old new status text
 Says version old new status text = SaysOnly version_line old new status text

@@ -4,7 +4,7 @@ ghost use Rattle.std.specs.String.{string_bytes};
 ghost use Rattle.mq_command_io.specs.Ending.{EndsWith, IsUnlessFailed};
 ghost use Rattle.mq_outside.specs.Outside.{Held, Rose, appended};
 ghost use Rattle.mq_run_laws.specs.Recovering.{EveryInterleavingIsRecovered};
-ghost use Rattle.mq_cli.specs.Asked.{Asked, HasScript, HasSmallNumbers, asked, asked_of, blocks, gen, run};
+ghost use Rattle.mq_cli.specs.Asked.{Asked, HasScript, HasSmallNumbers, asked, asked_of, blocks, gen, replicate, run};
 ghost use Rattle.mq_cli.specs.declared.command.BlocksOptions.{BlocksOptions};
 ghost use Rattle.mq_cli.specs.declared.command.RunFlags.{RunFlags};
 ghost use Rattle.mqfs.specs.Course.{Course, IsFault, IsOutOfMemory};
@@ -12,6 +12,7 @@ ghost use Rattle.mqfs.specs.Decided.{Decides, IsCovered, IsRunnable, RunsThere};
 ghost use Rattle.mqfs.specs.Played.{IsPlayed};
 ghost use Rattle.mqfs.specs.Program.{AreUnknown, IsDone, IsEndedRun, IsMisreadTrace, IsRefusedText, IsSaid, IsStatus, IsToSay, IsTooLong, KeepsNames, TakesFor, usage_line};
 ghost use Rattle.mqfs.specs.Ran.{IsRan, IsRanWhole};
+ghost use Rattle.mqfs.specs.Replicated.{IsReplicated};
 ghost use Rattle.mqfs.specs.Says.{Says, asked_workload};
 
 mod help;
@@ -28,6 +29,7 @@ use mq_command_blocks::run_blocks;
 use mq_command_check::check;
 use mq_command_images::{Numbers, cat, dump, format, ls, recover};
 use mq_command_io::{USAGE, say, say_memory};
+use mq_command_replicate::run_replicate;
 use mq_outside::{Files, Sink};
 use mq_run_laws::every_interleaving_is_recovered;
 use std::alloc::Global;
@@ -35,7 +37,8 @@ use std::sync::Wait;
 use std::thread::Threads;
 
 // The line of the words that are no command.
-const USAGE_LINE: &[u8] = b"usage: mqfs blocks|format|run|recover|ls|cat|gen|dump|check|audit\n";
+const USAGE_LINE: &[u8] =
+    b"usage: mqfs blocks|format|run|recover|ls|cat|gen|dump|check|audit|replicate\n";
 
 // Runs a command. Draws of `recover` come from 0 where no pick is given.
 fn run<F: Files, K: Sink, R: Threads + Wait + Sync, G: Gate + Sync>(
@@ -99,6 +102,9 @@ fn run<F: Files, K: Sink, R: Threads + Wait + Sync, G: Gate + Sync>(
         Command::Dump { image } => dump(alloc, image, files, out),
         Command::Check { image } => check(alloc, image, files, out),
         Command::Audit { trace } => audit(alloc, trace, files, out),
+        Command::Replicate { file, seed, save } => {
+            run_replicate(alloc, file, seed.unwrap_or(0), save, files, out)
+        }
         Command::Help(topic) => say_help(topic, out),
         Command::Version => say_version(out),
     }
@@ -203,6 +209,12 @@ pub fn mqfs<F: Files, K: Sink, R: Threads + Wait + Sync, G: Gate + Sync>(
         → asked_of (map string_bytes words.now) ≡ Some (gen seed threads groups save)
         → result ≡ 0
         → IsPlayed (asked_workload seed threads groups) save (F.state files.old) (F.state files.new) (K.state out.old) (K.state out.new) }
+    // `replicate`: at the status 0 the lines of the text that the file holds were fed to a replica, its image is saved
+    // where a name is given for it, and the output is their number and what stands after all of them.
+    ensures replicated { (file : List ℕ) (seed : Option ℕ) (save : Option (List ℕ))
+        → asked_of (map string_bytes words.now) ≡ Some (replicate file seed save)
+        → result ≡ 0
+        → IsReplicated file save (F.state files.old) (F.state files.new) (K.state out.old) (K.state out.new) }
     // Of every interleaving of queue events and every power cut between two of them.
     ensures journal { EveryInterleavingIsRecovered }
     // The words are no command.
@@ -211,8 +223,8 @@ pub fn mqfs<F: Files, K: Sink, R: Threads + Wait + Sync, G: Gate + Sync>(
         × ((K.state out.new).contents ≡ appended (K.state out.old).contents usage_line)
         × (F.state files.new ≡ F.state files.old) }
     ensures usage_where { AreUnknown (map string_bytes words.now) → IsUnlessFailed 1 result }
-    // The words are those of `blocks` or `audit`, and the file holds bytes that are refused; or they are
-    // those of `run`, and a script is refused, or there are more than queues.
+    // The words are those of `blocks`, `replicate` or `audit`, and the file holds bytes that are refused; or they
+    // are those of `run`, and a script is refused, or there are more than queues.
     ensures refused { result ≡ 2
         → IsRefusedText (map string_bytes words.now) (F.state files.old) (K.state out.old) (K.state out.new)
         ⊎ (IsMisreadTrace (map string_bytes words.now) (F.state files.old) (K.state out.old) (K.state out.new)

@@ -4,13 +4,13 @@ ghost use Rattle.mq_command_run.specs.RunsScripts.{Runs};
 ghost use Rattle.mq_command_io.specs.Ending.{EndsWith, IsUnlessFailed};
 ghost use Rattle.mq_cli.specs.Asked.{AreSmallOfRun};
 ghost use Rattle.mqfs.specs.Decided.{IsRunnable, RunDecides};
-ghost use Rattle.mqfs.specs.Says.{failing, run_options};
+ghost use Rattle.mqfs.specs.Says.{failing, run_ending, run_options};
 
 use mq_calls::Gate;
 use mq_cli::{FailingCommand, RunFlags};
 use mq_command_run::run;
 use mq_image_ops::Failing;
-use mq_image_run::RunOptions;
+use mq_image_run::{Ending, RunOptions};
 use mq_outside::{Files, Sink};
 use std::alloc::Global;
 use std::sync::Wait;
@@ -26,12 +26,22 @@ fn failing_of(command: FailingCommand) -> Failing
     }
 }
 
+// How a run ends: with a cut where one is asked for, and else with a checkpoint.
+fn ending_of(cut: Option<u64>) -> Ending
+    ensures { result ≡ run_ending cut }
+{
+    match cut {
+        Some(events) => Ending::Cut(events),
+        None => Ending::Checkpoint,
+    }
+}
+
 // What the options ask of a run. Draws come from 0 where no pick is given.
 fn options_of(options: RunFlags) -> RunOptions
     ensures { result ≡ run_options options }
 {
     RunOptions {
-        cut: options.cut,
+        ending: ending_of(options.cut),
         pick: options.pick.unwrap_or(0),
         fail: match options.fail {
             Some(command) => Some(failing_of(command)),

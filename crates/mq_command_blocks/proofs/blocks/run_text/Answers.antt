@@ -37,7 +37,8 @@ live_blocks-requires-clause-homes c =
     let image = c.in_ok-image.ensures.stands in
     let standing = c.in_ok-standing.standing in
     let holds = holds_lines c.args.text.now c.args.cut image.0 c.in_ok-image.image standing.prefix standing.blocks.items image.2 c.in_ok-standing.ensures.stands in
-    ap length c.deref.ensures.value ∙ holds.size
+    let many = ap length c.deref.ensures.value ∙ holds.size in
+    omega (arith, many)
 
 pub returns : goal.returns
 returns c =

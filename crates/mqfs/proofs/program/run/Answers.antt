@@ -43,6 +43,9 @@ returns-in-Check-clause-ends g c = rw c.in-Check.is c.check.ensures.ends
 pub returns-in-Audit-clause-ends : goal.returns-in-Audit-clause-ends
 returns-in-Audit-clause-ends g c = rw c.in-Audit.is c.audit.ensures.ends
 
+pub returns-in-Replicate-clause-ends : goal.returns-in-Replicate-clause-ends
+returns-in-Replicate-clause-ends g c = rw c.in-Replicate.is c.run_replicate.ensures.ends
+
 pub returns-in-Help-clause-ends : goal.returns-in-Help-clause-ends
 returns-in-Help-clause-ends g c = rw c.in-Help.is (0, help_text c.in-Help.topic, said refl, c.say_help.ensures)
 

@@ -1,0 +1,61 @@
+-- The writes of a line, block by block, and that they rise.
+use Rattle.std.proofs.Common.{◌≡◌, ◌<◌, ◌≤◌, ℕ, zero, suc, ◌+◌, ◌-◌, List, [], ◌∷◌, ◌++◌, Option, Some, None, ◌∙◌, ap, sym, subst, arith, append_assoc, nat_lt, if◌then◌else◌}
+use Rattle.mq_blocks.specs.Blocks.{filled}
+use Rattle.mq_blocks.specs.Descriptor.{AreRising}
+use Rattle.mq_blocks.specs.Geometry.{write_limit}
+use Rattle.mq_blocks.specs.Limits.{list_limit}
+use Rattle.mq_blocks.specs.Machine.{Writes}
+use Rattle.mq_blocks.specs.declared.geometry.Geometry.{Geometry}
+use Rattle.mq_block_trace.specs.Lines.{with_write, writes_from, named}
+use Rattle.mq_block_trace.proofs.LinesFills.{Fill, length-writes, named_is, writes_at}
+use Rattle.mq_ledger.specs.History.{blocks_of}
+use Rattle.mq_replica.specs.Updates.{AreBelow, AreWritesFit, AreWritesRising, update_limit}
+use Rattle.mq_command_replicate.specs.Updates.{IsReplicaGeometry}
+use Rattle.mq_command_replicate.proofs.HeldLines.{last_is}
+
+-- ---- what a loop over the blocks has so far
+
+pub writes_none : (f : Fill) (b : ℕ) (so_far all : Writes) → b < 256 → f b ≡ None → all ≡ so_far ++ writes_from f b (named - b) → all ≡ so_far ++ writes_from f (b + 1) (named - (b + 1))
+writes_none f b so_far all less none is =
+    is ∙ ap (λ (ws : Writes). so_far ++ ws) (writes_at f named b (omega (arith, named_is)) ∙ ap (λ (o : Option ℕ). with_write b o (writes_from f (b + 1) (named - (b + 1)))) none)
+
+pub writes_some : (f : Fill) (b v : ℕ) (so_far all : Writes) → b < 256 → f b ≡ Some v → all ≡ so_far ++ writes_from f b (named - b)
+    → all ≡ (so_far ++ (b, filled v) ∷ []) ++ writes_from f (b + 1) (named - (b + 1))
+writes_some f b v so_far all less some is =
+    is ∙ ap (λ (ws : Writes). so_far ++ ws) (writes_at f named b (omega (arith, named_is)) ∙ ap (λ (o : Option ℕ). with_write b o (writes_from f (b + 1) (named - (b + 1)))) some)
+    ∙ sym (append_assoc so_far ((b, filled v) ∷ []) (writes_from f (b + 1) (named - (b + 1))))
+
+-- ---- they rise
+
+rising_one : (low high b : ℕ) (o : Option ℕ) (ws : Writes) → low ≤ b → b < high → ((m : ℕ) → m ≤ b + 1 → AreRising m high (blocks_of ws)) → AreRising low high (blocks_of (with_write b o ws))
+rising_one low high b None ws from below rest = rest low (omega arith)
+rising_one low high b (Some v) ws from below rest = (from, below, rest (b + 1) (omega arith))
+
+rising_from : (f : Fill) (b n low high : ℕ) → low ≤ b → b + n ≤ high → AreRising low high (blocks_of (writes_from f b n))
+rising_from f b zero low high from below = tt
+rising_from f b (suc n) low high from below = rising_one low high b (f b) (writes_from f (b + 1) n) from (omega arith) (λ m at. rising_from f (b + 1) n m high at (omega arith))
+
+pub writes_named : (f : Fill) → AreRising 0 named (blocks_of (writes_from f 0 named))
+writes_named f = rising_from f 0 named 0 named (omega arith) (omega arith)
+
+pub writes_rise : (f : Fill) → AreWritesRising (writes_from f 0 named)
+writes_rise f = (named, writes_named f)
+
+-- ---- they fit
+
+rising_below : (low high : ℕ) (bs : List ℕ) → AreRising low high bs → AreBelow high bs
+rising_below low high [] rising = tt
+rising_below low high (b ∷ bs) rising = (rising.1, rising_below (b + 1) high bs rising.2)
+
+room : ℕ → ℕ
+room area = if nat_lt area (list_limit + 24) then area - 24 else list_limit
+
+replica_limit : (g : Geometry) → IsReplicaGeometry g → update_limit g ≡ 999
+unfolding write_limit room
+replica_limit g is = ap (λ (area : ℕ). room area - 1) is.area
+
+pub writes_fit : (g : Geometry) → IsReplicaGeometry g → (f : Fill) → AreWritesFit g (writes_from f 0 named)
+writes_fit g is f = record {
+  below = subst (λ (high : ℕ). AreBelow high (blocks_of (writes_from f 0 named))) (named_is ∙ sym (last_is g is)) (rising_below 0 named (blocks_of (writes_from f 0 named)) (writes_named f));
+  few = (let l = replica_limit g is in let n = length-writes f 0 named in let e = named_is in omega (arith, l, n, e));
+}
