@@ -1,0 +1,5 @@
+pub mod FilesOnce
+pub mod FilesRead
+pub mod LinesSpelled
+pub mod ReportsBack
+pub mod ReportsPrinted

@@ -1,0 +1,4 @@
+pub mod Files
+pub mod Reports
+pub mod Synced
+pub mod Verbs
