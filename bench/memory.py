@@ -81,19 +81,24 @@ class Wrong(Exception):
     """A call that ended as none may: why."""
 
 
+def link_heap(folder, out):
+    """Links the object `program.o` in a folder with the heap that refuses requests."""
+    kit = quick_build.kit()
+    words = [f"--target={quick_build.MACHINE}", "--no-default-config", "-O1", "-fPIE", "-c", HEAP, "-o", f"{folder}/heap.o"]
+    quick_build.carry_out("clang", [f"{kit}/toolchain/bin/clang", *words])
+    words = ["--target", quick_build.MACHINE, "--toolchain", f"{kit}/toolchain", "-o", out]
+    words += [f"{folder}/program.o", f"{folder}/heap.o", f"{kit}/c/libos_c.a", f"{kit}/c/liblibc_c.a"]
+    quick_build.carry_out("rattle-link", [f"{kit}/bin/rattle-link", *words])
+
+
 def build(out):
     """Builds the program over the heap that refuses requests."""
-    kit = quick_build.kit()
     with tempfile.TemporaryDirectory(prefix="memory-") as folder:
         root = os.path.join(TOP, "crates", PROGRAM, "src", "main.rt")
         below = quick_build.libraries((TOP, quick_build.crates_of(TOP)[PROGRAM]))
         module = quick_build.lowered(PROGRAM, root, below, folder)
         quick_build.compile_module(module, [*quick_build.COMPILED, "-O1"], f"{folder}/program.o")
-        words = [f"--target={quick_build.MACHINE}", "--no-default-config", "-O1", "-fPIE", "-c", HEAP, "-o", f"{folder}/heap.o"]
-        quick_build.carry_out("clang", [f"{kit}/toolchain/bin/clang", *words])
-        words = ["--target", quick_build.MACHINE, "--toolchain", f"{kit}/toolchain", "-o", out]
-        words += [f"{folder}/program.o", f"{folder}/heap.o", f"{kit}/c/libos_c.a", f"{kit}/c/liblibc_c.a"]
-        quick_build.carry_out("rattle-link", [f"{kit}/bin/rattle-link", *words])
+        link_heap(folder, out)
 
 
 def sum_of(data):
@@ -290,12 +295,18 @@ def calls(program, folder, names):
             yield f"`{words}`", Other(program, folder, words, files)
 
 
-def main():
-    parser = argparse.ArgumentParser(description=__doc__, formatter_class=argparse.RawDescriptionHelpFormatter)
+def options(text):
+    """The options of a script in which each request for memory is refused in turn."""
+    parser = argparse.ArgumentParser(description=text, formatter_class=argparse.RawDescriptionHelpFormatter)
     parser.add_argument("--jobs", type=int, default=os.cpu_count(), metavar="N")
     parser.add_argument("--from", type=int, default=1, metavar="N", dest="begin")
     parser.add_argument("--step", type=int, default=1, metavar="N")
     parser.add_argument("--program", metavar="FILE")
+    return parser
+
+
+def main():
+    parser = options(__doc__)
     parser.add_argument("calls", nargs="*", metavar="CALL")
     asked = parser.parse_args()
     memory = "/dev/shm" if os.path.isdir("/dev/shm") else None

@@ -1,8 +1,9 @@
-/* The heap of a program that bench/memory.py builds, in place of the toolchain's: it counts the requests and refuses some of them.
+/* The heap of a program that bench/memory.py or bench/replica_memory.py builds, in place of the toolchain's: it counts the requests and
+   refuses some of them.
 
    REFUSED is `N`, for the Nth request alone, or `N-`, for it and all later ones; without it none is refused. COUNTED is a file of 16 bytes,
-   in which two words of 8 bytes count the requests and those that were refused. A request is one for a new piece, or for another size of
-   one. */
+   in which two words of 8 bytes count the requests and those that were refused, or of 24, with the word `phase_now` as it was at the last
+   refusal. A request is one for a new piece, or for another size of one. */
 typedef unsigned long size;
 
 void *malloc(size);
@@ -21,7 +22,9 @@ struct tried {
     void *at;
 };
 
-static long first, uncounted[2], *counts = uncounted;
+/* Where the program is. Only a build that marks its functions sets it. */
+long phase_now;
+static long first, uncounted[3], *counts = uncounted;
 static _Bool and_later;
 /* What is told where no piece was given. */
 static char nothing[16] __attribute__((aligned(16)));
@@ -46,8 +49,10 @@ static _Bool is_refused(void)
     long number = __atomic_add_fetch(&counts[0], 1, __ATOMIC_SEQ_CST);
     _Bool is = first && (number == first || (and_later && number > first));
 
-    if (is)
+    if (is) {
         __atomic_add_fetch(&counts[1], 1, __ATOMIC_SEQ_CST);
+        counts[2] = phase_now;
+    }
     return is;
 }
 
