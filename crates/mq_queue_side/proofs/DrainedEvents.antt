@@ -9,6 +9,7 @@ use Rattle.mq_blocks.specs.declared.command.Command.{Command}
 use Rattle.mq_drive.specs.declared.port.Off.{Off as PowerCut}
 use Rattle.mq_pmr.specs.Answers.{EndsWell, EndsBadly}
 use Rattle.mq_pmr.specs.Queue.{after_head}
+use Rattle.mq_pmr.specs.Rungs.{last_leading, is_clear}
 use Rattle.mq_queue_side.specs.Drained.{Completes, HasMade, HasEnded, HasDrained, IsCutBefore, IsCutBetween, DrainMakes, answer_of}
 use Rattle.mq_queue_side.specs.Side.{SideState}
 use Rattle.mq_queue_side.specs.declared.answers.Why.{Why}
@@ -24,12 +25,12 @@ counted_more e (suc n) m =
     counted_more (min (e + 1) (2 ^ 64 - 1)) n m ∙ ap (λ (k : ℕ). counted e k) z
 
 pub made_then : (n m : ℕ) (a b c : SideState) → HasMade n a b → HasMade m b c → HasMade (n + m) a c
-made_then n m a b c first second = second ∙ ap (λ (e : ℕ). counted e m) first ∙ counted_more a.port.events n m
+made_then n m a b c first second = (second.0 ∙ ap (λ (e : ℕ). counted e m) first.0 ∙ counted_more a.port.events n m, second.1 ∙ first.1)
 
 -- ---- commands end
 
 pub none_ended : (s : SideState) → HasEnded s s
-none_ended s = record { ended = 0; left = omega arith; made = refl }
+none_ended s = record { ended = 0; left = omega arith; made = (refl, refl) }
 
 one_less : (cs : List Command) (at : ℕ) (c : Command) → slice_get cs at ≡ Some c → 1 + length (remove cs at) ≡ length cs
 one_less cs at c is = (let l = length-remove cs at (slice_get_within cs at c is) in omega (arith, l))
@@ -45,19 +46,19 @@ pub well_more : (old now new : SideState) (slot : ℕ) → HasEnded old now → 
 well_more old now new slot h well =
     ended_more old now new h
     (ap (λ (p : PortState). 1 + length p.posted) well.is ∙ one_less now.port.posted well.at well.command well.posted)
-    (ap (λ (p : PortState). p.events) well.is)
+    (ap (λ (p : PortState). p.events) well.is, ap (λ (p : PortState). p.begins) well.is)
 
 pub badly_more : (old now new : SideState) (tx : ℕ) → HasEnded old now → EndsBadly now.port tx new.port → HasEnded old new
 badly_more old now new tx h badly =
     ended_more old now new h
     (ap (λ (p : PortState). 1 + length p.posted) badly.is ∙ one_less now.port.posted badly.at badly.command badly.posted)
-    (ap (λ (p : PortState). p.events) badly.is)
+    (ap (λ (p : PortState). p.events) badly.is, ap (λ (p : PortState). p.begins) badly.is)
 
 pub still_ended : (old now new : SideState) → HasEnded old now → new.port ≡ now.port → HasEnded old new
 still_ended old now new h is = record {
   ended = h.ended;
   left = ap (λ (p : PortState). h.ended + length p.posted) is ∙ h.left;
-  made = ap (λ (p : PortState). p.events) is ∙ h.made;
+  made = (ap (λ (p : PortState). p.events) is ∙ h.made.0, ap (λ (p : PortState). p.begins) is ∙ h.made.1);
 }
 
 -- ---- the head moves on
@@ -66,11 +67,17 @@ head_events : (p : PortState) (h : ℕ) (b : Bool) → (if b then p else after_f
 head_events p h true = refl
 head_events p h false = refl
 
+head_begins : (p : PortState) (h : ℕ) (b : Bool) → (if b then p else after_flush (after_store_head p h)).begins ≡ p.begins
+head_begins p h true = refl
+head_begins p h false = refl
+
 pub moved : (old new : SideState) → new.port ≡ after_head old.port new.passed.end → new.port.head ≡ new.passed.end → HasMade (if eqb old.port.head new.port.head then 0 else 2) old new
-moved old new is head =
-    ap (λ (p : PortState). p.events) is
-    ∙ head_events old.port new.passed.end (eqb old.port.head new.passed.end)
-    ∙ ap (λ (h : ℕ). counted old.port.events (if eqb old.port.head h then 0 else 2)) (sym head)
+moved old new is head = (
+  ap (λ (p : PortState). p.events) is
+      ∙ head_events old.port new.passed.end (eqb old.port.head new.passed.end)
+      ∙ ap (λ (h : ℕ). counted old.port.events (if eqb old.port.head h then 0 else 2)) (sym head),
+  ap (λ (p : PortState). p.begins) is ∙ head_begins old.port new.passed.end (eqb old.port.head new.passed.end),
+)
 
 -- ---- the whole drain
 
@@ -98,15 +105,19 @@ module _ (old mid new : SideState) (failed : Bool) (c : Completes old (Ok failed
 pub cut_before : (old new : SideState) (off : PowerCut) → Completes old (Err off) new → HasEnded old new → DrainMakes old (Err cause.Off) new
 cut_before old new off c h = inl (record { ended = h; head = c.same.head; stored = c.same.stored })
 
-pub cut_between : (old mid new : SideState) (failed : Bool) → Completes old (Ok failed) mid → HasEnded old mid → (new.port ≡ mid.port) ⊎ (new.port ≡ after_store_head mid.port new.passed.end) → DrainMakes old (Err cause.Off) new
+pub cut_between : (old mid new : SideState) (failed : Bool) → Completes old (Ok failed) mid → HasEnded old mid → (new.port ≡ mid.port) ⊎ ((new.port ≡ after_store_head mid.port new.passed.end) × (new.passed ≡ last_leading (is_clear mid.port) mid.passed mid.rung)) → DrainMakes old (Err cause.Off) new
 cut_between old mid new failed c h (inl is) = inl (record {
   ended = still_ended old mid new h is;
   head = ap (λ (p : PortState). p.head) is ∙ c.same.head;
   stored = ap (λ (p : PortState). p.stored_head) is ∙ c.same.stored;
 })
-cut_between old mid new failed c h (inr is) = inr (record {
+cut_between old mid new failed c h (inr (is, passed)) = inr (record {
   posted = ap (λ (p : PortState). p.posted) is ∙ c.ends.0;
-  made = made_then (length old.port.posted) 1 old mid new (all_ended old mid h c.ends.0) (ap (λ (p : PortState). p.events) is);
+  made = made_then (length old.port.posted) 1 old mid new (all_ended old mid h c.ends.0) (ap (λ (p : PortState). p.events) is, ap (λ (p : PortState). p.begins) is);
   head = ap (λ (p : PortState). p.head) is ∙ c.same.head;
   stored = ap (λ (p : PortState). p.stored_head) is;
+  passed =
+      passed
+      ∙ ap (λ (f : ℕ → Bool). last_leading f mid.passed mid.rung) (sym (ap is_clear is))
+      ∙ (λ j. last_leading (is_clear new.port) (c.same.passed j) (c.same.rung j));
 })

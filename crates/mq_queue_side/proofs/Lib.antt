@@ -21,3 +21,4 @@ pub mod CommitsPlans
 pub mod SideHomeWrites
 pub mod Roots
 pub mod Told
+pub mod ReversedLists

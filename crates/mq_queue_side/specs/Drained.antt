@@ -163,9 +163,9 @@ answer_of failed done (Some w) = Err (stop_of failed w.0 w.1)
 
 -- ---- the events that happen
 
--- so many events happened on the port
+-- so many events happened on the port, and no home write began
 abbrev pub HasMade : ℕ → SideState → SideState → Type 0
-HasMade n old new = new.port.events ≡ counted old.port.events n
+HasMade n old new = (new.port.events ≡ counted old.port.events n) × (new.port.begins ≡ old.port.begins)
 
 -- so many of the posted commands ended, each in an event
 pub record HasEnded (old new : SideState) : Type 0 where
@@ -174,11 +174,13 @@ pub record HasEnded (old new : SideState) : Type 0 where
   pub made : HasMade ended old new
 
 -- the head was stored and flushed where it was not there already; where the power went off, nothing
--- happened, or it was stored
+-- happened, or it was stored past each leading transaction whose commands all succeeded
 abbrev pub MovesHead : {A : Type 0} → SideState → Result A Off → SideState → Type 0
 MovesHead old (Ok _) new = HasMade (if nat_eq old.port.head new.port.head then 0 else 2) old new
 MovesHead old (Err _) new =
-    (new.port ≡ old.port) ⊎ (new.port ≡ after_store_head old.port new.passed.end)
+    (new.port ≡ old.port)
+    ⊎ ((new.port ≡ after_store_head old.port new.passed.end)
+    × (new.passed ≡ last_leading (is_clear old.port) old.passed old.rung))
 
 -- Every posted command ended in an event, and the head moved in two where it moved.
 abbrev pub HasDrained : SideState → SideState → Type 0
@@ -197,6 +199,7 @@ pub record IsCutBetween (old new : SideState) : Type 0 where
   pub made : HasMade (length old.port.posted + 1) old new
   pub head : new.port.head ≡ old.port.head
   pub stored : new.port.stored_head ≡ new.passed.end
+  pub passed : new.passed ≡ last_leading (is_clear new.port) old.passed old.rung
 
 -- how many events a drain makes
 abbrev pub DrainMakes : SideState → Result ℕ Cause → SideState → Type 0

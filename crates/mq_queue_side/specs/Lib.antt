@@ -11,3 +11,4 @@ pub mod Told
 pub mod Counts
 pub mod Roots
 pub mod Laws
+pub mod Opening

@@ -243,6 +243,17 @@ impl Numbered {
         self.number
     }
 
+    /// The same transaction, with this as the last block of its descriptor: for a form of descriptors
+    /// other than the journal's, with which a journal may be written as well.
+    pub fn with_last(self, last: Block) -> Numbered
+        ensures { result ≡ record self { last = last } }
+    {
+        Numbered {
+            block: last,
+            ..self
+        }
+    }
+
     // What goes into the ring, in its order.
     pub(crate) fn into_items(self, geometry: Geometry) -> Vec<(Lba, Block)>
         requires queue { self.queue < queues_of geometry }

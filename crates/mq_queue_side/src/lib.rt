@@ -8,6 +8,7 @@ mod drawn;
 mod homes;
 mod laws;
 mod number;
+mod opening;
 mod prepare;
 mod room;
 mod root;
@@ -21,5 +22,6 @@ pub use laws::{
     a_claim_keeps_sides, a_drain_reaches, a_draw_keeps_sides, a_new_side_is_one,
     a_number_is_stored, a_placement_is_a_plan, events_are_bounded,
 };
+pub use opening::{open_sides, unmake_sides};
 pub use root::Root;
 pub use side::QueueSide;

@@ -1,6 +1,7 @@
 // A queue's side.
-ghost use Rattle.std.specs.Prelude.{◌≡◌, ◌↔◌, [], ◌≤◌, ◌^◌, IfOk, IfErr, IsTrue, None};
+ghost use Rattle.std.specs.Prelude.{◌≡◌, ◌↔◌, [], ◌≤◌, ◌-◌, ◌^◌, IfOk, IfErr, IsTrue, None};
 ghost use Rattle.mq_blocks.specs.Drive.{staged_end};
+ghost use Rattle.mq_blocks.specs.Limits.{usable_depth};
 ghost use Rattle.mq_queue_side.specs.Quiet.{IsClearUnlessKept};
 ghost use Rattle.mq_queue_side.specs.Stored.{rows_of, next_in};
 
@@ -63,6 +64,21 @@ impl<P: Port, E> QueueSide<P, E> {
         ensures { result ≡ self.now.pmr.queue }
     {
         self.pmr.queue()
+    }
+
+    /// The count of the next entry.
+    pub fn end(&self) -> u64
+        ensures { result ≡ staged_end (P.state self.now.pmr.port) }
+    {
+        self.pmr.end()
+    }
+
+    /// How many entries have room in the ring.
+    pub fn room(&self) -> u32
+        ensures { result ≡ usable_depth - (staged_end (P.state self.now.pmr.port)
+            - (P.state self.now.pmr.port).head) }
+    {
+        self.pmr.room()
     }
 
     /// Whether nothing is under way: the head, as last flushed, has passed all that was staged.

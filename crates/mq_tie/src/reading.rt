@@ -1,23 +1,11 @@
 // The history of a run, read entry by entry, and the ports that it leaves.
-ghost use Rattle.std.specs.Prelude.{◌≡◌, ◌+◌, ◌<◌, ◌≤◌, ◌++◌, Some, length, map, reverse, slice_get, vec_len, vec_capacity};
+ghost use Rattle.std.specs.Prelude.{◌≡◌, ◌+◌, ◌<◌, Some, length, reverse, slice_get};
 ghost use Rattle.mq_tie.specs.Runs.{history_of, ports_of};
 
 use crate::ended::Ended;
 use mq_drive::{Port, Ports};
 use mq_pages::PageCell;
-use mq_queue_side::{Drawn, QueueSide};
-
-// Puts the ports of sides back, the last side's first.
-fn unmake_sides<P: Port, E: Drop>(sides: Vec<QueueSide<P, E>>, ports: &mut Vec<P>)
-    requires room { vec_len ports.old + vec_len sides ≤ vec_capacity ports.old }
-    ensures { ports.new.items ≡ ports.old.items ++ map (λ s. s.pmr.port) (reverse sides.items) }
-{
-    let mut sides = sides;
-    while let Some(side) = sides.pop() {
-        ports.push_reserved(side.into_pmr().into_port());
-    }
-    sides.destroy_empty();
-}
+use mq_queue_side::{Drawn, unmake_sides};
 
 impl<P: Port, E> Ended<P, E> {
     /// The number of entries of the history.

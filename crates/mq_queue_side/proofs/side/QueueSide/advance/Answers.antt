@@ -1,4 +1,5 @@
-use Rattle.std.proofs.Common.{◌≡◌, refl, ap, ◌∙◌, ⊎_elim}
+use Rattle.std.proofs.Common.{◌≡◌, refl, ap, ◌∙◌, ⊎_elim, inl, inr}
+use Rattle.std.proofs.lemmas.Result.{err_from_is_err_and}
 use Rattle.mq_blocks.specs.Drive.{PortState}
 use Rattle.mq_drive.specs.Steps.{PowerOff}
 use Rattle.mq_queue_side.specs.Side.{SideState, side_state}
@@ -63,3 +64,9 @@ returns-clause-moves g c =
     let new : SideState = record { geometry = ring.geometry; queue = ring.queue; port = g.P.Port.state ring.port; faults = g.P.Port.faults ring.port; passed = ring.done; rung = ring.rung.items; done = c.in_ok-done.done; kept = c.args.self.now.kept } in
     let e = c.in_ok-done.ensures in
     moved old new e.ok (ap (λ (p : PortState). p.head) e.ok ∙ head_at old.port new.passed.end)
+
+pub returns-in_err-done-clause-moves : goal.returns-in_err-done-clause-moves
+returns-in_err-done-clause-moves g c =
+    let e = c.in_err-done.ensures in
+    let p = err_from_is_err_and c.from_residual.result c.from_residual.ensures.1 in
+    rw p.1 (⊎_elim (λ port. inl port) (λ port. inr (port, e.done)) e.off)

@@ -1,6 +1,6 @@
 use Rattle.std.proofs.Common.{◌≡◌, ◌+◌, ◌≤◌, ◌++◌, length, map}
 use Rattle.std.specs.Prelude.{reverse, vec_capacity}
-use Rattle.mq_tie.proofs.reading.unmake_sides.Given as goal
+use Rattle.mq_queue_side.proofs.opening.unmake_sides.Given as goal
 
 abbrev pub invariant-loop-side : goal.invariant-loop-side
 invariant-loop-side g l = record {
