@@ -12,7 +12,7 @@ mod spot;
 mod step;
 
 pub use check::check_bucket;
-pub use key::{KEY_LIMIT, VALUE_LIMIT, bucket_of};
+pub use key::{KEY_LIMIT, VALUE_LIMIT, bucket_of, is_key};
 pub use laws::{a_bucket_has_its_records, buckets_are_a_store, one_offset_is_the_first_bad};
 pub use operation::{Key, KvFault, KvOp, KvReply, Value};
 pub use spot::{Spot, get};

@@ -1,4 +1,7 @@
 // Operations on a store, and what they answer.
+ghost use Rattle.std.specs.Prelude.{◌≡◌};
+ghost use Rattle.mq_kv_buckets.specs.Store.{key_of};
+
 use std::marker::Model;
 
 /// The bytes of a key, which need not have a good length.
@@ -34,6 +37,19 @@ pub enum KvOp {
     Delete(Key),
     /// Reads the value of a key.
     Get(Key),
+}
+
+impl KvOp {
+    /// The key that it is about.
+    pub fn key(&self) -> &[u8]
+        ensures { result.now ≡ key_of self.now }
+    {
+        match self {
+            KvOp::Put(key, _) => &key.0,
+            KvOp::Delete(key) => &key.0,
+            KvOp::Get(key) => &key.0,
+        }
+    }
 }
 
 /// The answer to one operation.

@@ -6,10 +6,10 @@ ghost use Rattle.mq_kv_buckets.specs.Buckets.{IsFormed, bucket_bytes, records_of
 ghost use Rattle.mq_kv_buckets.specs.Records.{lookup};
 ghost use Rattle.mq_kv_buckets.specs.Steps.{IsDeleteStep, IsPlace, IsPutStep, IsStep};
 ghost use Rattle.mq_kv_buckets.specs.declared.operation.KvReply.TheVariants.{Done};
-ghost use Rattle.mq_kv_buckets.specs.Store.{done_in, is_key as is_good_key, key_of, read_reply, reply};
+ghost use Rattle.mq_kv_buckets.specs.Store.{done_in, key_of, read_reply, reply};
 
 use crate::edit::{put, remove};
-use crate::key::{KEY_LIMIT, VALUE_LIMIT};
+use crate::key::{VALUE_LIMIT, is_key};
 use crate::operation::{KvFault, KvOp, KvReply, Value};
 use crate::record::LENGTHS;
 use crate::spot::{Spot, end_of, find, get};
@@ -33,13 +33,6 @@ pub enum Step {
     Reply(KvReply),
     /// It is done by an edit at this place.
     Edit(Place),
-}
-
-// Whether a key has 1 to 255 bytes.
-fn is_key(key: &[u8]) -> bool
-    ensures { result ≡ is_good_key key.now }
-{
-    !key.is_empty() && key.len() <= KEY_LIMIT
 }
 
 // The place of a key in a bucket, which is empty where its block is absent.
@@ -111,12 +104,8 @@ pub fn plan(alloc: Global, bucket: Option<&Block>, op: &KvOp) -> Result<Step, Ou
     requires { IsFormed (content (option_copied bucket)) }
     ensures { IfOk result (IsStep (records_of (content (option_copied bucket.entry))) op.now) }
 {
-    match op {
-        KvOp::Put(key, _) | KvOp::Delete(key) | KvOp::Get(key) => {
-            if !is_key(&key.0) {
-                return Ok(Step::Reply(KvReply::Refused(KvFault::KeySize)));
-            }
-        }
+    if !is_key(op.key()) {
+        return Ok(Step::Reply(KvReply::Refused(KvFault::KeySize)));
     }
     match op {
         KvOp::Put(key, value) => Ok(plan_put(bucket, &key.0, &value.0)),

@@ -3,11 +3,10 @@ ghost use Rattle.std.specs.Prelude.{◌≡◌, ◌≤◌, IfOk, OnOk};
 ghost use Rattle.mq_blocks.specs.Blocks.{content};
 ghost use Rattle.mq_kv_buckets.specs.Buckets.{IsFormed};
 ghost use Rattle.mq_kv_buckets.specs.Keys.{bucket_of as bucket};
-ghost use Rattle.mq_kv_buckets.specs.Store.{AreBuckets, key_of as key_in, replies_on, reply_on};
+ghost use Rattle.mq_kv_buckets.specs.Store.{AreBuckets, key_of, replies_on, reply_on};
 ghost use Rattle.mq_kv_groups.specs.Groups.{Answers, IsPossible};
 ghost use Rattle.mq_kv_groups.specs.Working.{HasRun, IsStepped, now};
 
-use crate::key::key_of;
 use crate::missing::missing;
 use crate::outcome::{KvDone, KvOutcome};
 use crate::working::Working;
@@ -24,11 +23,11 @@ fn step(
     op: &KvOp,
 ) -> Result<KvReply, OutOfMemory>
     requires some { 1 ≤ buckets }
-    requires formed { IsFormed (content (now working.old (bucket buckets (key_in op.now)))) }
+    requires formed { IsFormed (content (now working.old (bucket buckets (key_of op.now)))) }
     ensures reply { IfOk result (λ r. r ≡ reply_on buckets (now working.old) op.now) }
     ensures stepped { OnOk result (IsStepped buckets working.old working.new op.now) }
 {
-    let b = BlockNo(bucket_of(key_of(op), buckets));
+    let b = BlockNo(bucket_of(op.key(), buckets));
     match plan(alloc, working.bucket(b), op)? {
         Step::Reply(reply) => Ok(reply),
         Step::Edit(place) => {

@@ -3,7 +3,6 @@
 
 mod difference;
 mod group;
-mod key;
 mod laws;
 mod missing;
 mod outcome;

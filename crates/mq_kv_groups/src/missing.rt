@@ -1,20 +1,19 @@
 // The buckets at which a group looks.
 ghost use Rattle.std.specs.Prelude.{◌≡◌, ◌≤◌, false, IfOk, MatchOption};
-ghost use Rattle.mq_kv_buckets.specs.Store.{is_key as is_good_key, key_of as key_in};
+ghost use Rattle.mq_kv_buckets.specs.Store.{is_key as is_good_key, key_of};
 ghost use Rattle.mq_kv_groups.specs.Groups.{AreAllMissing, AreLacking, LacksAt, LooksAt, LooksAtHeld};
 
-use crate::key::{is_key, key_of};
 use mq_blocks::{BlockNo, OutOfMemory};
-use mq_kv_buckets::{KvOp, bucket_of};
+use mq_kv_buckets::{KvOp, bucket_of, is_key};
 use mq_pages::Held;
 use std::alloc::Global;
 
 // The bucket at which an operation looks; none where its key is refused for its length.
 fn bucket_looked_at(op: &KvOp, buckets: u32) -> Option<BlockNo>
     requires { 1 ≤ buckets }
-    ensures { MatchOption result (is_good_key (key_in op.now) ≡ false) (LooksAt buckets op.now) }
+    ensures { MatchOption result (is_good_key (key_of op.now) ≡ false) (LooksAt buckets op.now) }
 {
-    let key = key_of(op);
+    let key = op.key();
     if is_key(key) {
         return Some(BlockNo(bucket_of(key, buckets)));
     }

@@ -1,13 +1,11 @@
 -- Bytes are the file of one list of groups, or have one first line that is not in the form.
-use Rattle.std.proofs.Common.{◌≡◌, ◌≢◌, inl, inr, ℕ, Bool, true, false, eqb, cond, ◌+◌, ◌-◌, List, [], ◌∷◌, ◌++◌, length, get_or, take, drop, map, sym, ◌∙◌, ap, subst, refl, arith, append_assoc, append-nil, length-append}
+use Rattle.std.proofs.Common.{◌≡◌, ◌≢◌, inl, inr, ℕ, eqb, cond, ◌+◌, ◌-◌, List, [], ◌∷◌, ◌++◌, length, get_or, take, drop, map, sym, ◌∙◌, ap, subst, refl, arith, append_assoc, append-nil, length-append}
 use Rattle.std.specs.Prelude.{codes, bytes_eq, Result, Ok, Err, IfOk, IfErr, MatchResult}
 use Rattle.std.specs.List.{AllByRecursion, join_with_byte, slice_split}
 use Rattle.std.proofs.Math.Seq.{drop-append_seam, take-append_seam}
-use Rattle.std.proofs.lemmas.List.{append_cancel_right, map-append, take-append-drop}
-use Rattle.std.proofs.lemmas.List.Splits.{join_with_byte-slice_split}
-use Rattle.std.proofs.lemmas.Slice.Eq.{bytes_eq-Decides}
+use Rattle.std.proofs.lemmas.List.{append_cancel_right, map-append}
 use Rattle.mq_block_text.specs.Refusals.{ended}
-use Rattle.mq_block_text.proofs.TextParts.{Avoids, split_of_join, split_some}
+use Rattle.mq_block_text.proofs.TextParts.{Avoids, split_of_join}
 use Rattle.mq_kv_buckets.specs.declared.operation.KvOp.{KvOp}
 use Rattle.mq_kv_text.specs.Files.{IsFile, IsLine, IsMisread, IsRefusal, IsRefused, IsSpellable, IsWrong, asked_lines, file_lines, groups_text, line_text, op_text, ops_text}
 use Rattle.mq_kv_text.specs.declared.line.Line.{Line}
@@ -15,9 +13,8 @@ use Rattle.mq_kv_text.specs.declared.line.Line.TheVariants.{Asks, Syncs}
 use Rattle.mq_kv_text.specs.declared.refusal.KvTextRefusal.{KvTextRefusal}
 use Rattle.mq_kv_text.specs.declared.refusal.KvTextRefusal.TheVariants.{Line as At, OutOfMemory}
 use Rattle.mq_kv_text.proofs.LinesSpelled.{line_avoids, same_line}
-use Rattle.mq_script.proofs.Reading.{ended_join, some_lines}
+use Rattle.mq_script.proofs.Reading.{ended_join, lines_again, some_lines}
 use Rattle.mq_script.specs.Reading.{lines_of}
-use Rattle.mq_script.specs.Spelled.{AreLines}
 
 -- ---- the lines of a file
 
@@ -80,11 +77,6 @@ lines_by_last text b =
 -- a text whose last byte is no line feed
 lines_open : (text : List ℕ) → lines_of (text ++ 99 ∷ []) ≡ slice_split (λ c. eqb c 10) (text ++ 99 ∷ [])
 lines_open text = lines_by_last text 99
-
--- lines that were ended are cut where they end
-pub lines_again : (lines : List (List ℕ)) → AllByRecursion (Avoids 10) lines → lines_of (ended 10 lines) ≡ lines
-lines_again [] avoid = refl
-lines_again (x ∷ xs) avoid = ap lines_of (ended_join x xs) ∙ lines_by_last (join_with_byte 10 (x ∷ xs)) 10 ∙ split_of_join 10 x xs avoid.0 avoid.1
 
 split_lines : (lines : List (List ℕ)) → lines ≢ [] → AllByRecursion (Avoids 10) lines → (bytes : List ℕ) → bytes ++ 10 ∷ [] ≡ ended 10 lines → slice_split (λ c. eqb c 10) bytes ≡ lines
 split_lines [] some avoid bytes e = absurd (some refl)
@@ -193,26 +185,3 @@ module _ {T : Type 0} (items : T → List (List KvOp)) (bytes : List ℕ) where
   only_of (Ok v) ok refused groups is = one_file bytes (items v) groups ok is
   only_of (Err (At l)) ok refused groups is = absurd (file_or_misread bytes groups l is refused)
   only_of (Err OutOfMemory) ok refused groups is = refl
-
--- ---- a file of the lines that were read
-
--- a text is its lines, each ended by a line feed but for the last
-pub lines_are : (text : List ℕ) → AreLines text (lines_of text)
-lines_are [] = inl refl
-lines_are (b ∷ bs) = step (bytes_eq (drop (length (b ∷ bs) - 1) (b ∷ bs)) (codes "\n")) refl
-  where
-    feed_at : bytes_eq (drop (length (b ∷ bs) - 1) (b ∷ bs)) (codes "\n") ≡ true → b ∷ bs ≡ take (length (b ∷ bs) - 1) (b ∷ bs) ++ 10 ∷ []
-    feed_at h =
-        let same : drop (length (b ∷ bs) - 1) (b ∷ bs) ≡ 10 ∷ [] = (bytes_eq-Decides (drop (length (b ∷ bs) - 1) (b ∷ bs)) (codes "\n")).0 h in
-        sym (take-append-drop (length (b ∷ bs) - 1) (b ∷ bs)) ∙ ap (λ (l : List ℕ). take (length (b ∷ bs) - 1) (b ∷ bs) ++ l) same
-
-    parts_ended : (parts : List (List ℕ)) (text : List ℕ) → (parts ≡ [] → ⊥) → join_with_byte 10 parts ≡ text → ended 10 parts ≡ text ++ 10 ∷ []
-    parts_ended [] text some is = absurd (some refl)
-    parts_ended (x ∷ xs) text some is = ended_join x xs ∙ ap (λ (l : List ℕ). l ++ 10 ∷ []) is
-
-    cut_ended : (text : List ℕ) → ended 10 (slice_split (λ c. eqb c 10) text) ≡ text ++ 10 ∷ []
-    cut_ended text = parts_ended (slice_split (λ c. eqb c 10) text) text (split_some (λ c. eqb c 10) text) (join_with_byte-slice_split 10 text)
-
-    step : (t : Bool) → bytes_eq (drop (length (b ∷ bs) - 1) (b ∷ bs)) (codes "\n") ≡ t → AreLines (b ∷ bs) (slice_split (λ c. eqb c 10) (cond t (take (length (b ∷ bs) - 1) (b ∷ bs)) (b ∷ bs)))
-    step true feed = inl (feed_at feed ∙ sym (cut_ended (take (length (b ∷ bs) - 1) (b ∷ bs))))
-    step false feed = inr (sym (cut_ended (b ∷ bs)))

@@ -12,7 +12,8 @@ use Rattle.mq_kv_text.specs.declared.line.Line.{Line}
 use Rattle.mq_kv_text.specs.declared.line.Line.TheVariants.{Asks, Syncs}
 use Rattle.mq_kv_text.specs.declared.refusal.Misread.{Misread}
 use Rattle.mq_kv_text.specs.declared.refusal.Misread.TheVariants.{Form, OutOfMemory as NoMemory}
-use Rattle.mq_kv_text.proofs.FilesOnce.{lines_are, text_of_file}
+use Rattle.mq_kv_text.proofs.FilesOnce.{text_of_file}
+use Rattle.mq_script.proofs.Spelled.{lines_are}
 use Rattle.mq_script.specs.Reading.{lines_of}
 
 -- ---- one more line

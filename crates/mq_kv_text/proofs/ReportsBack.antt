@@ -11,7 +11,7 @@ use Rattle.mq_kv_buckets.specs.declared.operation.KvFault.{KvFault}
 use Rattle.mq_kv_buckets.specs.declared.operation.KvFault.TheVariants.{BucketFull, KeySize, ValueSize}
 use Rattle.mq_kv_buckets.specs.declared.operation.KvReply.{KvReply}
 use Rattle.mq_kv_buckets.specs.declared.operation.KvReply.TheVariants.{Done, Missing, Refused, Value}
-use Rattle.mq_kv_text.proofs.FilesOnce.{lines_again}
+use Rattle.mq_script.proofs.Reading.{lines_again}
 use Rattle.mq_kv_text.proofs.LinesSpelled.{no_feed}
 use Rattle.mq_kv_text.specs.Reports.{IsPlain, IsPlainGroup, IsPlainLast, IsPlainReply, Report, group_lines, groups_lines, last_line, reply_text, report_lines, report_text}
 use Rattle.mq_kv_text.specs.declared.report.GroupReport.{GroupReport}

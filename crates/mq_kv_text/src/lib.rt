@@ -1,7 +1,6 @@
 //! The text of the program on key-value stores: reading its files, and what it prints.
 #![tactic(auto)]
 
-mod cut;
 mod laws;
 mod line;
 mod print;

@@ -4,10 +4,10 @@ ghost use Rattle.mq_kv_buckets.specs.declared.operation.KvOp.{KvOp as Operation}
 ghost use Rattle.mq_kv_text.specs.Files.{IsFile, IsMisread, IsRefusal, IsRefused, lines_so_far};
 ghost use Rattle.mq_kv_text.specs.declared.refusal.KvTextRefusal.TheVariants.{OutOfMemory as out_of_memory};
 
-use crate::cut::cut_lines;
 use crate::line::{Line, read_line};
 use crate::refusal::KvTextRefusal;
 use mq_kv_buckets::KvOp;
+use mq_script::cut_lines;
 use std::alloc::Global;
 use std::marker::Model;
 use std::mem;

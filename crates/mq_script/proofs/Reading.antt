@@ -106,7 +106,7 @@ lines_ended text =
     some_lines (text ++ 10 ∷ []) (omega (arith, length-append text (10 ∷ [])))
     ∙ ap (slice_split (λ c. eqb c 10)) (front_of text (length (text ++ 10 ∷ []) - 1) (omega (arith, length-append text (10 ∷ []))))
 
-lines_again : (lines : List (List ℕ)) → AllByRecursion (Avoids 10) lines → lines_of (ended 10 lines) ≡ lines
+pub lines_again : (lines : List (List ℕ)) → AllByRecursion (Avoids 10) lines → lines_of (ended 10 lines) ≡ lines
 lines_again [] h = refl
 lines_again (line ∷ lines) h = ap lines_of (ended_join line lines) ∙ lines_ended (join_with_byte 10 (line ∷ lines)) ∙ split_of_join 10 line lines h.0 h.1
 

@@ -521,7 +521,8 @@ cut_ended text = step (slice_split (λ c. eqb c 10) text) (split_some (λ c. eqb
     step [] some is = absurd (some refl)
     step (x ∷ xs) some is = ended_join x xs ∙ ap (λ (l : List ℕ). l ++ 10 ∷ []) is
 
-lines_are : (text : List ℕ) → AreLines text (lines_of text)
+-- a text is its lines, each ended by a line feed but for the last
+pub lines_are : (text : List ℕ) → AreLines text (lines_of text)
 lines_are [] = inl refl
 lines_are (b ∷ bs) = step (bytes_eq (drop (length (b ∷ bs) - 1) (b ∷ bs)) (codes "\n")) refl
   where

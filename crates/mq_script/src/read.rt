@@ -14,8 +14,8 @@ use std::mem;
 /// The greatest number of bytes of a script.
 const SIZE_LIMIT: usize = 16_777_216;
 
-/// The lines of a text.
-fn cut_lines(alloc: Global, bytes: &[u8]) -> Result<Vec<&[u8]>, AllocError>
+/// The lines of a text. The last may lack its line feed.
+pub fn cut_lines(alloc: Global, bytes: &[u8]) -> Result<Vec<&[u8]>, AllocError>
     ensures { IfOk result (λ v. map (λ x. x.now) v.items ≡ lines_of bytes.now) }
 {
     if bytes.is_empty() {
