@@ -21,7 +21,7 @@ use Rattle.mq_queue_side.specs.declared.answers.Why.{Why}
 use Rattle.mq_calls.specs.Acts.{GoesOn}
 use Rattle.mq_calls.specs.Helpers.{HasSettled, IsAtEase, IsCausedBy}
 use Rattle.mq_calls.specs.Sessions.{IsReady}
-use Rattle.mq_calls.proofs.ActsGoingOn.{goes-swept}
+use Rattle.mq_sessions.proofs.Attempts.{goes-swept}
 
 -- ---- the causes of an answer
 
@@ -105,7 +105,7 @@ module _ {P : Type 0} {G : Ghosts P} (state : P → PortState) (faults : P → L
   }
 
   pub goes-settled : (q : ℕ) (r : Result ℕ Cause) (v w : Seat P FileEntry G) → OnOk r (HasSwept state faults file_group v w) → IfErr r (λ c. RefusesDrain q c v w) → GoesOn v w
-  goes-settled q (Ok n) v w swept refused = goes-swept state faults v w swept
+  goes-settled q (Ok n) v w swept refused = goes-swept state faults file_group v w swept
   goes-settled q (Err c) v w swept refused = refused-goes q c v w refused
 
   pub still-ready : (g : Geometry) (q n : ℕ) (cells : HeldCells) (v w : Seat P FileEntry G) → OnlyRead v w → IsReady g q n cells v → IsReady g q n cells w

@@ -45,7 +45,7 @@ use Rattle.mq_calls.specs.Opening.{IsEquipped, IsNewSession, IsOpenedOver, IsUnc
 use Rattle.mq_calls.specs.Runs.{file_values, geometry_at}
 use Rattle.mq_calls.specs.Sessions.{HasCalled}
 use Rattle.mq_calls.proofs.OpeningState.{count-is, first-contents, first-numbers, map-after, map-at, state-is}
-use Rattle.mq_sessions.specs.Sides.{IsNewSide}
+use Rattle.mq_queue_side.specs.Opening.{IsNewSide}
 
 -- ---- the record of a new side
 

@@ -23,7 +23,7 @@ use Rattle.mq_desk_laws.proofs.Opening.{at_map}
 use Rattle.mq_tree.specs.Laid.{is_marked, map_of}
 use Rattle.mq_turns.specs.declared.rule.Opening.{Opening}
 use Rattle.mq_calls.specs.Opening.{first_cell, first_cells, stored_map}
-use Rattle.mq_sessions.specs.Sides.{IsIdle}
+use Rattle.mq_queue_side.specs.Opening.{IsIdle}
 
 -- ---- lists
 

@@ -1,2 +1,2 @@
 -- Passed on for those who take sessions apart.
-pub use Rattle.mq_sessions.proofs.ReversedLists.{back-more}
+pub use Rattle.mq_queue_side.proofs.ReversedLists.{back-more}

@@ -2,10 +2,7 @@ pub mod Runs
 pub mod Sessions
 pub mod Acts
 pub mod Calling
-pub mod Committing
-pub mod Preparing
 pub mod Asking
-pub mod Drawing
 pub mod Synchronizing
 pub mod Laws
 pub mod Opening

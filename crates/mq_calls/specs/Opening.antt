@@ -23,6 +23,7 @@ use Rattle.mq_tree.specs.Laid.{map_of}
 use Rattle.mq_turns.specs.Desk.{fresh}
 use Rattle.mq_calls.specs.Runs.{file_values, geometry_at}
 use Rattle.mq_calls.specs.Sessions.{IsReady}
+pub use Rattle.mq_sessions.specs.Seats.{IsEquipped, IsUncalled}
 
 -- ---- what stands on the drive
 
@@ -59,17 +60,6 @@ module _ {P : Type 0} {G : Ghosts P} (state : P → PortState) (faults : P → L
     pub root : o.root.port ≡ ports.root
     pub shape : geometry_at state faults o ≡ g
     pub fresh : IsFresh (file_values state faults) file_group o
-
--- no cell is held, and there is room for those of all home blocks
-pub record IsEquipped (g : Geometry) (cells : HeldCells) : Type 0 where
-  pub none : cells.cells ≡ []
-  pub room : homes_of g ≤ cells.room
-
--- the session has the number of its queue, has made no call, and wants no block yet
-pub record IsUncalled (i queue calls : ℕ) (wanted : List ℕ) : Type 0 where
-  pub queue_is : queue ≡ i
-  pub calls_are : calls ≡ 0
-  pub wanted_are : wanted ≡ []
 
 module _ {P : Type 0} {G : Ghosts P} where
   -- a session that has made no call

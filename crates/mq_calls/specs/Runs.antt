@@ -7,7 +7,7 @@ use Rattle.mq_drive.specs.declared.port.Port.{Ghosts}
 use Rattle.mq_exec.specs.Outcomes.{AreKnown, Answers}
 use Rattle.mq_exec.specs.declared.outcome.Done.{Done}
 use Rattle.mq_exec.specs.declared.outcome.Outcome.TheVariants.{Done as IsDone}
-use Rattle.mq_file_entries.specs.Entries.{IsAllLogged}
+use Rattle.mq_file_entries.specs.Entries.{IsAllLogged, freed_by, written_by}
 use Rattle.mq_file_entries.specs.Group.{file_group}
 use Rattle.mq_file_entries.specs.Plans.{DoneOn, IsEntryOf}
 use Rattle.mq_file_entries.specs.declared.entry.FileEntry.{FileEntry}
@@ -22,6 +22,7 @@ use Rattle.mq_queue_side.specs.declared.root.Root.{Root}
 use Rattle.mq_queue_side.specs.declared.side.QueueSide.{QueueSide}
 use Rattle.mq_sessions.specs.Calls.{Call}
 use Rattle.mq_sessions.specs.Executors.{CallView}
+use Rattle.mq_tree.specs.declared.request.Reply.{Reply}
 use Rattle.mq_tree.specs.declared.request.Request.{Request}
 use Rattle.mq_turns.specs.Desk.{Sees}
 use Rattle.mq_turns.specs.Meaning.{Meaning}
@@ -39,15 +40,29 @@ pub record IsEntryFor (c : Call Request) (done : Done) (e : FileEntry) : Type 0 
   pub call : e.call ≡ c.count
   pub durable : e.durable ≡ c.durable
 
+-- the entry is of this call, with these replies
+pub record IsOfCall (c : Call Request) (replies : List Reply) (e : FileEntry) : Type 0 where
+  pub session : e.session ≡ c.session
+  pub call : e.call ≡ c.count
+  pub durable : e.durable ≡ c.durable
+  pub requests : e.requests ≡ c.requests
+  pub replies_are : e.replies ≡ replies
+
 -- how a group of file requests is read, and what it came to
-abbrev pub file_calls : CallView FileEntry Request Done
+abbrev pub file_calls : CallView FileEntry Request Reply Done
 file_calls = record {
+  replies = λ done. done.replies.items;
   writes = λ done. done.writes.items;
   frees = λ done. done.frees.items;
   on_cells = λ g session cells requests done. IsDoneOnCells g session requests cells done;
   on_map = λ g session m requests done. DoneOn g session m requests done;
   entry_for = λ c done e. IsEntryFor c done e;
   undrawn = λ e. IsAllLogged e;
+  of_call = λ c replies e. IsOfCall c replies e;
+  written = written_by;
+  freed = freed_by;
+  placed = λ e. e.placed;
+  reads = λ e. e.reads;
 }
 
 module _ {P : Type 0} {G : Ghosts P} (state : P → PortState) (faults : P → List PortFault) where

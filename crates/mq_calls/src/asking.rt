@@ -9,10 +9,10 @@ ghost use Rattle.mq_calls.specs.Sessions.{IsReady};
 
 use crate::answers::{Answer, CallCause, Refusal};
 use crate::rounds::run_held;
-use crate::session::{CALL_LIMIT, Mqfs, Session};
+use crate::session::{Mqfs, Session};
 use mq_blocks::OutOfMemory;
 use mq_drive::Port;
-use mq_sessions::{Asked, read_group};
+use mq_sessions::{Asked, CALL_LIMIT, read_group};
 use mq_tree::{Request, changes};
 use std::alloc::Global;
 use std::sync::Wait;

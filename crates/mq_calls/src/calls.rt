@@ -1,38 +1,40 @@
 // The calls of a session that change the file system.
-ghost use Rattle.std.specs.Prelude.{◌≡◌, ◌+◌, ◌<◌, ◌≤◌, IfErr, IfOk, OnOk, [], None, true, false};
+ghost use Rattle.std.specs.Prelude.{◌≡◌, ◌+◌, ◌<◌, ◌≤◌, IfErr, IfOk, OnOk, [], true, false};
 ghost use Rattle.mq_file_entries.specs.Group.{file_group};
 ghost use Rattle.mq_journal.specs.Sweeping.{HasSwept};
 ghost use Rattle.mq_turns.specs.AtDesk.{AtDesk, view};
-ghost use Rattle.mq_calls.specs.Acts.{GoesOn, HasActed, HasNotWaited, IsAreaFull, IsRefused, cause_of};
-ghost use Rattle.mq_calls.specs.Calling.{call_by, call_of};
+ghost use Rattle.mq_calls.specs.Acts.{GoesOn, HasActed, HasNotWaited, IsRefused, cause_as};
+ghost use Rattle.mq_calls.specs.Calling.{call_by};
 ghost use Rattle.mq_calls.specs.Sessions.{IsReady};
 ghost use Rattle.mq_calls.specs.Synchronizing.{IsDurable, IsNotDurable, WasDrainRefused};
 
 use crate::answers::{Answer, CallCause, Refusal};
-use crate::committing::Miss;
-use crate::session::{CALL_LIMIT, Mqfs, Session};
-use mq_checkpoint::CheckpointRefusal;
+use crate::session::{Mqfs, Session};
 use mq_drive::Port;
 use mq_journal::drain_all;
-use mq_sessions::{Asked, Gate, Point};
+use mq_sessions::{CALL_LIMIT, Gate, Point, RefusalCause};
 use mq_tree::Request;
 use std::alloc::Global;
 use std::sync::Wait;
 
-// The refusal of a group that draws no number, for this.
-fn refused(cause: CallCause) -> Refusal
-    ensures { result ≡ record { cause = cause; drawn = None } }
+// The cause of a refusal, as the file system names it.
+fn cause_for(cause: RefusalCause) -> CallCause
+    ensures { result ≡ cause_as cause }
 {
-    Refusal { cause, drawn: None }
+    match cause {
+        RefusalCause::OutOfMemory => CallCause::OutOfMemory,
+        RefusalCause::TooLarge { count, limit } => CallCause::TooLarge { count, limit },
+        RefusalCause::Drive(cause) => CallCause::Drive(cause),
+    }
 }
 
-// What a call answers where its checkpoint was refused.
-fn no_room(why: CheckpointRefusal) -> Refusal
-    ensures { result ≡ record { cause = cause_of why; drawn = None } }
+// How a file system refuses a group that its session refused.
+fn refused(refusal: mq_sessions::Refusal) -> Refusal
+    ensures { result ≡ record { cause = cause_as refusal.cause; drawn = refusal.drawn } }
 {
-    match why {
-        CheckpointRefusal::OutOfMemory => refused(CallCause::OutOfMemory),
-        CheckpointRefusal::Drive(cause) => refused(CallCause::Drive(cause)),
+    Refusal {
+        cause: cause_for(refusal.cause),
+        drawn: refusal.drawn,
     }
 }
 
@@ -75,52 +77,6 @@ impl<P: Port + Drop> Mqfs<P> {
         }
     }
 
-    // Makes room in the journal areas by a checkpoint, and does the group once more: its plan did not fit
-    // the area of its queue. After the checkpoint no number that the session drew is above the base, so the
-    // plan fits then.
-    fn act_again<R: Wait>(
-        &self,
-        rt: &R,
-        alloc: Global,
-        session: &mut Session<P>,
-        asked: &Asked<Request>,
-    ) -> Result<Answer, Refusal>
-        requires desk { AtDesk self.now.desk session.old.chair }
-        requires ready { IsReady self.now.geometry asked.now.queue asked.now.calls session.old.held
-            (view session.old.chair) }
-        requires queue { session.old.queue ≡ asked.now.queue }
-        requires calls { session.old.calls ≡ asked.now.calls + 1 }
-        requires limit { asked.now.calls < CALL_LIMIT }
-        ensures desk { AtDesk self.now.desk session.new.chair }
-        ensures ready { IsReady self.now.geometry session.new.queue session.new.calls session.new.held
-            (view session.new.chair) }
-        ensures queue { session.new.queue ≡ session.old.queue }
-        ensures calls { session.new.calls ≡ session.old.calls }
-        ensures goes { GoesOn (view session.old.chair) (view session.new.chair) }
-        ensures acts { IfOk result (λ a. (first : _)
-            → IsAreaFull P.state P.faults self.now.geometry (call_of asked.now) first (view session.old.chair)
-            → HasActed P.state P.faults self.now.geometry (call_of asked.now) a.at a.drew a.replies.items
-            first (view session.new.chair)) }
-        ensures waits { IfOk result (λ a. (first : _)
-            → IsAreaFull P.state P.faults self.now.geometry (call_of asked.now) first (view session.old.chair)
-            → HasNotWaited P.state P.faults self.now.geometry (call_of asked.now) a.at a.drew
-            first (view session.new.chair)) }
-        ensures seen { IfOk result (λ a. a.at ≤ (view session.new.chair).seen) }
-        ensures refused { IfErr result (λ r. (first : _)
-            → IsAreaFull P.state P.faults self.now.geometry (call_of asked.now) first (view session.old.chair)
-            → IsRefused P.state P.faults self.now.geometry (call_of asked.now)
-            first (view session.new.chair) r.cause r.drawn) }
-    {
-        match self.checkpoint(rt, alloc, session) {
-            Ok(_) => match self.attempt(rt, alloc, session, asked) {
-                Ok(answer) => Ok(answer),
-                Err(Miss::Refused(refusal)) => Err(refusal),
-                Err(Miss::AreaFull) => unreachable!(),
-            },
-            Err(why) => Err(no_room(why)),
-        }
-    }
-
     // Does a group as the session's next call. Where its plan does not fit the journal area, it makes a
     // checkpoint and begins again, once.
     fn act<R: Wait>(
@@ -151,20 +107,21 @@ impl<P: Port + Drop> Mqfs<P> {
             (call_by session.old.queue session.old.calls durable requests.now)
             (view session.old.chair) (view session.new.chair) r.cause r.drawn) }
     {
-        if session.calls >= CALL_LIMIT {
-            return Err(refused(CallCause::OutOfMemory));
-        }
-        let asked = Asked {
-            queue: session.queue,
-            calls: session.calls,
-            durable,
+        match mq_sessions::act(
+            rt,
+            alloc,
+            &self.desk,
+            self.geometry,
+            session,
             requests,
-        };
-        session.calls += 1;
-        match self.attempt(rt, alloc, session, &asked) {
-            Ok(answer) => Ok(answer),
-            Err(Miss::Refused(refusal)) => Err(refusal),
-            Err(Miss::AreaFull) => self.act_again(rt, alloc, session, &asked),
+            durable,
+        ) {
+            Ok(given) => Ok(Answer {
+                at: given.at,
+                drew: given.drew,
+                replies: given.replies,
+            }),
+            Err(refusal) => Err(refused(refusal)),
         }
     }
 

@@ -1,5 +1,5 @@
 // A file system gives its desk back.
-ghost use Rattle.std.specs.Prelude.{◌≡◌, ◌≤◌, ◌+◌, ◌++◌, [], IfOk, IfErr, map, vec_len, vec_capacity};
+ghost use Rattle.std.specs.Prelude.{◌≡◌, ◌+◌, ◌++◌, IfOk, IfErr, map, vec_len};
 ghost use Rattle.std.specs.List.{All};
 ghost use Rattle.mq_turns.specs.AtDesk.{AtDesk, chairs_of};
 
@@ -8,32 +8,9 @@ use crate::session::{Mqfs, Session};
 use crate::settling::Helper;
 use mq_blocks::OutOfMemory;
 use mq_drive::Port;
+use mq_sessions::leave;
 use mq_turns::{Chair, Desk};
 use std::alloc::Global;
-
-// The chairs of sessions and then of helpers, both in their order.
-fn leave<P: Port + Drop>(
-    sessions: Vec<Session<P>>,
-    helpers: Vec<Helper<P>>,
-    chairs: Vec<Chair<FileMachine<P>>>,
-) -> Vec<Chair<FileMachine<P>>>
-    requires { (chairs.items ≡ []) × (vec_len sessions + vec_len helpers ≤ vec_capacity chairs) }
-    ensures { result.items ≡ map (λ s. s.chair) sessions.items ++ map (λ h. h.chair) helpers.items }
-{
-    let mut sessions = sessions;
-    let mut helpers = helpers;
-    let mut chairs = chairs;
-    while let Some(helper) = helpers.pop() {
-        let Helper { chair } = helper;
-        chairs.push_reserved(chair);
-    }
-    while let Some(session) = sessions.pop() {
-        let Session { chair, .. } = session;
-        chairs.push_reserved(chair);
-    }
-    chairs.reverse();
-    chairs
-}
 
 impl<P: Port + Drop> Mqfs<P> {
     /// The desk, and the chairs of all its sessions and then of all its helpers, both in their order. On out

@@ -4,18 +4,13 @@
 
 mod answers;
 mod asking;
-mod attempting;
 mod calls;
 mod checkpointing;
 mod closing;
-mod committing;
-mod drawing;
 mod laws;
-mod leaving;
 mod machine;
 mod mounting;
 mod opening;
-mod preparing;
 mod rounds;
 mod session;
 mod settling;
@@ -27,9 +22,9 @@ pub use machine::{FileGroups, FileMachine, Shaped};
 pub use mounting::find_volume;
 pub use mq_checkpoint::CheckpointRefusal;
 pub use mq_sessions::{
-    Gate, Open, Point, current_pages_are_of_the_map, drawn_pages_are_held, give_back_pages,
-    held_pages_are_current, held_pages_stay, no_page_is_left, take_pages,
+    Aide, Gate, Open, Point, User, current_pages_are_of_the_map, drawn_pages_are_held,
+    give_back_pages, held_pages_are_current, held_pages_stay, no_page_is_left, take_pages,
 };
 pub use rounds::run_held;
-pub use session::{FileSystem, Mqfs, Session, User};
-pub use settling::{Aide, Helper};
+pub use session::{FileSystem, Mqfs, Session};
+pub use settling::Helper;

@@ -1,32 +1,26 @@
 // A file system is opened on a desk, over the ports of a drive that was recovered.
-ghost use Rattle.std.specs.Prelude.{◌≡◌, ◌<◌, ◌≤◌, ◌+◌, ◌^◌, ℕ, [], IsNone, IfOk, IfErr, Some, length, map, slice_get, vec_len, vec_capacity};
+ghost use Rattle.std.specs.Prelude.{◌≡◌, ◌≤◌, ◌+◌, ◌^◌, ℕ, [], IfOk, IfErr, Some, length, slice_get, vec_len, vec_capacity};
 ghost use Rattle.std.specs.List.{All};
 ghost use Rattle.mq_blocks.specs.Geometry.{homes_of, queues_of};
 ghost use Rattle.mq_recover.specs.Drives.{drive_of};
 ghost use Rattle.mq_turns.specs.AtDesk.{AtDesk, view, start_of, chairs_of};
-ghost use Rattle.mq_turns.specs.Chairs.{Starts};
-ghost use Rattle.mq_turns.specs.Desk.{fresh};
 ghost use Rattle.mq_calls.specs.Helpers.{IsNewHelper};
-ghost use Rattle.mq_calls.specs.Runs.{files};
 ghost use Rattle.mq_calls.specs.Opening.{IsEquipped, IsNewSession, IsOpenedOver, MayOpen, first_cells};
 
 mod cells;
-mod seats;
 
 use crate::machine::FileMachine;
 use crate::session::{Mqfs, Session};
 use crate::settling::Helper;
 use cells::make_cells;
-use mq_blocks::{Geometry, OutOfMemory, TxNo};
+use mq_blocks::{Geometry, OutOfMemory};
 use mq_drive::{Port, Ports};
-use mq_file_entries::FileEntry;
 use mq_pages::{Held, PageCell};
-use mq_queue_side::{QueueSide, Root};
+use mq_queue_side::{Root, open_sides};
 use mq_recover::Standing;
 use mq_revoke::Placement;
-use mq_sessions::{open_sides, unmake_sides};
-use mq_turns::{Chair, Desk, Machine};
-use seats::{equip, seat, set_apart};
+use mq_sessions::{equip, open_desk, seat, set_apart};
+use mq_turns::Machine;
 use std::alloc::Global;
 
 // What an opening takes memory for before it takes a port: the cells, and what the sessions and the helpers
@@ -64,42 +58,6 @@ fn provide<P: Port + Drop>(
         sessions: Vec::with_capacity(alloc, sessions as usize)?,
         helpers: Vec::with_capacity(alloc, helpers as usize)?,
     })
-}
-
-// A desk with these values, and so many chairs. Out of memory gives the ports back.
-fn open_desk<P: Port + Drop>(
-    alloc: Global,
-    cells: Vec<PageCell>,
-    sides: Vec<QueueSide<P, FileEntry>>,
-    root: Root<P>,
-    base: TxNo,
-    count: u32,
-    spare: Vec<P>,
-) -> Result<(Desk<FileMachine<P>>, Vec<Chair<FileMachine<P>>>), (Ports<P>, OutOfMemory)>
-    requires count { 0 < count }
-    requires base { base ≤ 2 ^ 62 }
-    requires few { (vec_len cells < 2 ^ 32) × (vec_len sides < 2 ^ 32) }
-    requires starts { Starts (files P.state P.faults) (record { pages = cells.items; sides = sides.items; root = root; base = base }) }
-    requires room { (spare.items ≡ []) × (vec_len sides ≤ vec_capacity spare) }
-    ensures desk { IfOk result (λ d. (start_of d.0 ≡ record { pages = cells.items; sides = sides.items; root = root; base = base })
-        × (chairs_of d.0 ≡ count)) }
-    ensures chairs { IfOk result (λ d. (vec_len d.1 ≡ count)
-        × ((i : ℕ) (ch : _)
-        → slice_get d.1.items i ≡ Some ch
-        → AtDesk d.0 ch × (view ch ≡ fresh (start_of d.0) i))) }
-    ensures err { IfErr result (λ e. (e.0.queues.items ≡ map (λ s. s.pmr.port) sides.items)
-        × (e.0.root ≡ root.port)) }
-{
-    match Desk::new(alloc, cells, sides, root, base, count) {
-        Ok(opened) => Ok(opened),
-        Err((_, mut sides, root, full)) => {
-            let mut queues = spare;
-            sides.reverse();
-            unmake_sides(sides, &mut queues);
-            let root = root.into_port();
-            Err((Ports { queues, root }, full))
-        }
-    }
 }
 
 impl<P: Port + Drop> Mqfs<P> {

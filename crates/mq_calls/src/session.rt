@@ -4,15 +4,10 @@ ghost use Rattle.mq_blocks.specs.Geometry.{homes_of, queues_of};
 ghost use Rattle.mq_turns.specs.AtDesk.{chairs_of, start_of};
 
 use crate::machine::{FileMachine, Shaped};
-use mq_blocks::{BlockNo, Geometry, QueueNo};
+use mq_blocks::Geometry;
 use mq_drive::Port;
-use mq_pages::Held;
-use mq_revoke::Placement;
-use mq_turns::{Chair, Desk, Machine};
-
-/// The number of calls that a session may make. Each may draw a number, and the numbers of all sessions
-/// stay below 2^63. After this number of calls a session reports out of memory.
-pub(crate) const CALL_LIMIT: u64 = 1 << 57;
+use mq_sessions::User;
+use mq_turns::Desk;
 
 /// A file system over the ports of a drive. Threads share it by `&`, each with a session of its own.
 pub type Mqfs<P> = FileSystem<FileMachine<P>>;
@@ -31,34 +26,11 @@ pub struct FileSystem<M: Shaped> {
     ghost chairs: { chairs_of desk ≤ 32 },
 }
 
-/// A user of the desk of a machine.
-#[derive(Drop)]
-pub struct User<M: Machine> {
-    pub(crate) chair: Chair<M>,
-    // the queue has the session's number
-    pub(crate) queue: QueueNo,
-    // how many calls were made
-    pub(crate) calls: u64,
-    // room for what a call takes, reserved once
-    pub(crate) wanted: Vec<BlockNo>,
-    pub(crate) held: Held,
-    pub(crate) plan: Placement,
-}
-
 impl<P: Port + Drop> Mqfs<P> {
     /// The geometry of the drive.
     pub fn geometry(&self) -> Geometry
         ensures { result ≡ self.now.geometry }
     {
         self.geometry
-    }
-}
-
-impl<P: Port + Drop> Session<P> {
-    /// The queue on which it commits, which is its number.
-    pub fn queue(&self) -> QueueNo
-        ensures { result ≡ self.now.queue }
-    {
-        self.queue
     }
 }

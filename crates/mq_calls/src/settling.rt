@@ -13,18 +13,12 @@ use mq_blocks::{QueueNo, TxNo};
 use mq_drive::Port;
 use mq_journal::settle;
 use mq_queue_side::Cause;
-use mq_turns::{Chair, Machine};
+use mq_sessions::Aide;
 use std::sync::Wait;
 
 /// One that drains the sides of queues beside the sessions of a file system, on a thread of its own. It has
 /// no queue, and draws and reads nothing.
 pub type Helper<P> = Aide<FileMachine<P>>;
-
-/// A chair at the desk of a machine that belongs to no session.
-#[derive(Drop)]
-pub struct Aide<M: Machine> {
-    pub(crate) chair: Chair<M>,
-}
 
 impl<P: Port + Drop> Mqfs<P> {
     /// Takes the side of the queue, drains it, stores its mark and gives it back. Returns the last number of

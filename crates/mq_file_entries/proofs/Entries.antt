@@ -16,7 +16,7 @@ use Rattle.mq_file_entries.specs.Laws.{blocks_in}
 use Rattle.mq_file_entries.specs.Plans.{DoneOn, HasNumber, IsEntryOf, IsPlanned, map_known, planned_by}
 use Rattle.mq_file_entries.specs.declared.entry.FileEntry.{FileEntry}
 use Rattle.mq_file_entries.proofs.LawsChanging.{freed_there, frees_apart, frees_rise, whole_writes, writes_rise}
-use Rattle.mq_file_entries.proofs.LawsWritten.{all, only, whole_in}
+use Rattle.mq_sessions.proofs.LawsWritten.{all, only, whole_in}
 use Rattle.mq_ledger.specs.History.{change_of, map_after}
 use Rattle.mq_ledger.specs.KnownJournal.{KnownJournal}
 use Rattle.mq_ledger.specs.declared.tx.Tx.{Tx}

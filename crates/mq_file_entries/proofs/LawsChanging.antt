@@ -12,7 +12,7 @@ use Rattle.mq_blocks.specs.declared.geometry.Geometry.{Geometry}
 use Rattle.mq_blocks.proofs.JournalAmong.{among-contains, apart-from}
 use Rattle.mq_exec.specs.Moves.{Moves}
 use Rattle.mq_file_entries.specs.Laws.{blocks_in}
-use Rattle.mq_file_entries.proofs.LawsWritten.{only}
+use Rattle.mq_sessions.proofs.LawsWritten.{only}
 use Rattle.mq_inodes.proofs.LaidOnce.{shown-taken}
 use Rattle.mq_inodes.proofs.ChangesRegions.{shown-in}
 use Rattle.mq_ledger.specs.History.{blocks_of}

@@ -1,15 +1,15 @@
 -- What an entry says, and what its group does to a map of home blocks.
-use Rattle.std.specs.Prelude.{◌≡◌, ◌⊎◌, ◌<◌, ◌+◌, ℕ, List, [], length, map}
-use Rattle.mq_blocks.specs.Geometry.{queues_of, write_limit}
+use Rattle.std.specs.Prelude.{◌≡◌, ◌<◌, ℕ, List, [], map}
+use Rattle.mq_blocks.specs.Geometry.{queues_of}
 use Rattle.mq_blocks.specs.Machine.{Map, after}
 use Rattle.mq_blocks.specs.declared.geometry.Geometry.{Geometry}
 use Rattle.mq_exec.specs.Moves.{IsChangeOf, Moves}
 use Rattle.mq_file_entries.specs.declared.entry.FileEntry.{FileEntry}
+pub use Rattle.mq_sessions.specs.Drawn.{Changes, tx_by}
+pub use Rattle.mq_sessions.specs.Executors.{IsUndrawn}
 use Rattle.mq_ledger.specs.History.{change_of}
 use Rattle.mq_ledger.specs.declared.tx.Tx.{Tx}
 use Rattle.mq_pages.specs.declared.page.Write.{Write}
-use Rattle.mq_revoke.specs.Placed.{Placed}
-use Rattle.mq_queue_side.specs.Commits.{commit_by}
 use Rattle.mq_tree.specs.Laid.{IsLaid}
 use Rattle.mq_tree.specs.Requests.{after_group, replies}
 use Rattle.mq_tree.specs.Volume.{Volume}
@@ -22,17 +22,6 @@ written_by e = e.writes.value.items
 abbrev pub freed_by : FileEntry → List ℕ
 freed_by e = e.frees.value.items
 
--- the transaction of a group: its number, its queue, where its writes go, and what it writes and frees
-abbrev pub tx_by : ℕ → ℕ → Placed → List Write → List ℕ → Tx
-tx_by number queue plan writes frees = record {
-  number = number;
-  queue = queue;
-  logged = (commit_by plan writes).logged;
-  direct = (commit_by plan writes).direct;
-  revoked = (commit_by plan writes).revoked;
-  freed = frees;
-}
-
 -- that of an entry, whose number is the one at which it is drawn
 abbrev pub tx_of : FileEntry → Tx
 tx_of e = tx_by 0 e.session e.placed (written_by e) (freed_by e)
@@ -40,14 +29,6 @@ tx_of e = tx_by 0 e.session e.placed (written_by e) (freed_by e)
 -- the volume that its requests make of this one
 abbrev pub volume_after : Geometry → Volume → FileEntry → Volume
 volume_after g v e = after_group g e.session v e.requests
-
--- it writes or frees a block
-abbrev pub Changes : List Write → List ℕ → Type 0
-Changes writes frees = 0 < length writes + length frees
-
--- a group that isn't drawn changes nothing, or more than one transaction may
-abbrev pub IsUndrawn : Geometry → List Write → List ℕ → Type 0
-IsUndrawn g writes frees = ((writes ≡ []) × (frees ≡ [])) ⊎ (write_limit g < length writes)
 
 -- all that it would write stands as logged
 pub record IsAllLogged (e : FileEntry) : Type 0 where

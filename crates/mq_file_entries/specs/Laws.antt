@@ -1,33 +1,27 @@
 -- What holds of groups that were done, in one statement each.
-use Rattle.std.specs.Prelude.{◌≡◌, ◌<◌, ◌≤◌, ◌+◌, ◌++◌, ℕ, List, length, map, Some}
-use Rattle.std.specs.List.{Contains}
+use Rattle.std.specs.Prelude.{◌≡◌, ◌<◌, ◌≤◌, ◌+◌, ℕ, List, length, map}
 use Rattle.mq_blocks.specs.Descriptor.{AreRising}
 use Rattle.mq_blocks.specs.Geometry.{homes_of, queues_of}
 use Rattle.mq_blocks.specs.Journal.{number_limit}
 use Rattle.mq_blocks.specs.Machine.{Map}
 use Rattle.mq_blocks.specs.declared.geometry.Geometry.{Geometry}
 use Rattle.mq_exec.specs.declared.outcome.Done.{Done}
-use Rattle.mq_file_entries.specs.Entries.{RanUndrawn, Changes, Does, IsAllLogged, IsUndrawn, tx_by, tx_of, written_by}
+use Rattle.mq_file_entries.specs.Entries.{RanUndrawn, Changes, Does, IsAllLogged, IsUndrawn, tx_of, written_by}
 use Rattle.mq_file_entries.specs.Group.{file_group}
-use Rattle.mq_file_entries.specs.Plans.{DoneOn, HasNumber, IsEntryOf, IsPlanned, map_known, planned_by, planned_with}
+use Rattle.mq_file_entries.specs.Plans.{DoneOn, HasNumber, IsEntryOf, IsPlanned, map_known}
 use Rattle.mq_file_entries.specs.declared.entry.FileEntry.{FileEntry}
 use Rattle.mq_ledger.specs.KnownJournal.{KnownJournal, MayDraw}
-use Rattle.mq_pages.specs.Held.{Cells, cell_of}
-use Rattle.mq_pages.specs.declared.page.PageCell.{PageCell}
-use Rattle.mq_pages.specs.declared.page.Write.{Write}
 use Rattle.mq_revoke.specs.Guard.{placed_of}
 use Rattle.mq_revoke.specs.Placed.{Placed}
 use Rattle.mq_revoke.specs.Placing.{IsPlacement}
 use Rattle.mq_revoke.specs.declared.placement.Planned.{Planned}
-use Rattle.mq_desk_laws.specs.Cells.{cell_after}
-use Rattle.mq_desk_laws.specs.Rule.{DeskState, Fits, IsPage, May, core_of, geometry_of, history_of, map_now, numbered, start_of}
+use Rattle.mq_desk_laws.specs.Rule.{DeskState, Fits, May, core_of, geometry_of, map_now, numbered}
 use Rattle.mq_desk_laws.specs.Values.{Values}
 use Rattle.mq_queue_side.specs.Commits.{IsPlanOf, commit_by, commit_of_tx}
+use Rattle.mq_sessions.specs.Plans as sessions
+pub use Rattle.mq_sessions.specs.Drawn.{PagesStayBelow, blocks_in}
 use Rattle.mq_tree.specs.declared.request.Request.{Request}
 use Rattle.mq_turns.specs.Meaning.{newest}
-
-abbrev pub blocks_in : List Write → List ℕ
-blocks_in ws = map (λ w. w.block) ws
 
 -- ---- before there is an entry
 
@@ -99,16 +93,6 @@ DoneGroupsAsk =
     → IsAllLogged e
     → RanUndrawn g m e
 
--- ---- what a drawn group makes of a page
-
--- what it writes to greater blocks changes nothing of the page, and its queue doesn't either
-abbrev pub PagesStayBelow : Type 0
-PagesStayBelow =
-    (number queue b : ℕ) (plan : Placed) (writes more : List Write) (frees : List ℕ) (c : PageCell)
-    → ((w : Write) → Contains more w → b < w.block)
-    → cell_after (tx_by number queue plan (writes ++ more) frees) b c
-    ≡ cell_after (tx_by number 0 plan writes frees) b c
-
 -- ---- on a desk
 
 module _ {Q R : Type 0} (values : Values Q R FileEntry) where
@@ -139,11 +123,4 @@ module _ {Q R : Type 0} (values : Values Q R FileEntry) where
 
   -- the cells of the pages that a session holds are what the rule of placing asks for
   abbrev pub PagesTellPlans : Type 0
-  PagesTellPlans =
-      (K : DeskState values file_group) (cells : Cells) (writes : List Write)
-      → ((b : ℕ) (c : PageCell) → cell_of cells b ≡ Some c → IsPage values file_group b K c)
-      → ((w : Write) → Contains writes w → (c : PageCell) × (cell_of cells w.block ≡ Some c))
-      → map (planned_with cells) writes
-      ≡ map
-      (planned_by (start_of values file_group K.opening) K.opening.base
-      (history_of values file_group K)) writes
+  PagesTellPlans = sessions.PagesTellPlans values file_group

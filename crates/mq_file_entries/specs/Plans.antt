@@ -1,5 +1,5 @@
 -- A group that was done on pages of a map, and the plan of its writes.
-use Rattle.std.specs.Prelude.{◌≡◌, ◌<◌, ◌≤◌, ◌+◌, ℕ, Bool, true, false, List, length, map, Option, Some, None, is_none}
+use Rattle.std.specs.Prelude.{◌≡◌, ◌<◌, ◌≤◌, ◌+◌, ℕ, List, length, map}
 use Rattle.mq_blocks.specs.Geometry.{queues_of, write_limit}
 use Rattle.mq_blocks.specs.Journal.{number_limit}
 use Rattle.mq_blocks.specs.Machine.{Map}
@@ -8,16 +8,11 @@ use Rattle.mq_exec.specs.Outcomes.{IsDone}
 use Rattle.mq_exec.specs.declared.outcome.Done.{Done}
 use Rattle.mq_file_entries.specs.Entries.{freed_by, written_by}
 use Rattle.mq_file_entries.specs.declared.entry.FileEntry.{FileEntry}
-use Rattle.mq_ledger.specs.History.{last, last_logged, map_after}
+use Rattle.mq_ledger.specs.History.{map_after}
 use Rattle.mq_ledger.specs.KnownJournal.{KnownJournal, front}
 use Rattle.mq_ledger.specs.declared.tx.Tx.{Tx}
-use Rattle.mq_pages.specs.Held.{Cells, cell_of}
-use Rattle.mq_pages.specs.declared.page.Kind.{Kind}
-use Rattle.mq_pages.specs.declared.page.Kind.TheVariants.{Data, Meta}
-use Rattle.mq_pages.specs.declared.page.PageCell.{PageCell}
-use Rattle.mq_pages.specs.declared.page.Write.{Write}
 use Rattle.mq_revoke.specs.Placing.{IsPlacement}
-use Rattle.mq_revoke.specs.declared.placement.Planned.{Planned}
+pub use Rattle.mq_sessions.specs.Plans.{is_data, planned_by, planned_by_cell, planned_with}
 use Rattle.mq_tree.specs.Laid.{IsLaid}
 use Rattle.mq_tree.specs.Volume.{Volume}
 use Rattle.mq_tree.specs.declared.request.Request.{Request}
@@ -42,36 +37,6 @@ abbrev pub map_known : KnownJournal → Map
 map_known k = map_after k.start k.history
 
 -- ---- placing
-
-abbrev pub is_data : Kind → Bool
-is_data Data = true
-is_data Meta = false
-
--- what the rule of placing asks of a write, on the map at the base and the transactions from there on
-abbrev pub planned_by : Map → ℕ → List Tx → Write → Planned
-planned_by start base txs w = record {
-  block = w.block;
-  is_data = is_data w.kind;
-  was_free = is_none (map_after start txs w.block);
-  version = last base txs w.block;
-  last_logged = last_logged base txs w.block;
-}
-
--- the same of a block by the cell of its page; one that isn't held counts as not free, so that it is logged
-abbrev pub planned_by_cell : ℕ → Bool → Option PageCell → Planned
-planned_by_cell block of_file None =
-    record { block = block; is_data = of_file; was_free = false; version = 0; last_logged = 0 }
-planned_by_cell block of_file (Some cell) = record {
-  block = block;
-  is_data = of_file;
-  was_free = is_none cell.content;
-  version = cell.version;
-  last_logged = cell.last_logged;
-}
-
--- by the cells of the pages that a session holds
-abbrev pub planned_with : Cells → Write → Planned
-planned_with cells w = planned_by_cell w.block (is_data w.kind) (cell_of cells w.block)
 
 -- The blocks of the group are placed by the rule, with the front and the base that the session had read.
 abbrev pub IsPlaced : Geometry → Map → ℕ → List Tx → FileEntry → Type 0

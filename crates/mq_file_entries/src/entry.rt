@@ -8,17 +8,10 @@ use mq_blocks::{BlockNo, OutOfMemory, TxNo};
 use mq_exec::Done;
 use mq_pages::Write;
 use mq_revoke::Placement;
+use mq_sessions::Reads;
 use mq_tree::Request;
 use std::alloc::Global;
 use std::snapshot::Snapshot;
-
-/// What a session read before it placed the blocks of a group: all transactions up to the front were
-/// done, and no copy up to the base counted any more.
-#[derive(Clone, Copy, Debug, PartialEq, Eq)]
-pub struct Reads {
-    pub front: TxNo,
-    pub base: TxNo,
-}
 
 /// A group of requests as it was drawn, or as it was read: the requests, the replies, and where its
 /// writes go.

@@ -36,22 +36,14 @@ use Rattle.mq_turns.proofs.Lists.{each_map, miss, times_without, times_without_o
 use Rattle.mq_turns.proofs.DeskSeen.{stands_held, turn_seen}
 use Rattle.mq_sessions.specs.Leaving.{cells_after}
 use Rattle.mq_sessions.specs.Pages.{HoldsPage, HoldsPages, IsAfterStep, blocks_of, giving_pages}
+use Rattle.mq_sessions.proofs.DrawnSettled.{page_by}
 use Rattle.mq_sessions.proofs.PagesCounting.{times-contains}
 use Rattle.mq_sessions.proofs.PagesHolding.{pages-after, pages-kept-all}
 use Rattle.mq_sessions.proofs.PagesLists.{none-held, without_each-less}
 
 -- ---- one cell
 
--- the cell of a block by what is written there, as a copy or at home, and by whether it is freed
-abbrev cell_by : ℕ → Option (List ℕ) → Option (List ℕ) → Bool → PageCell → PageCell
-cell_by n logged direct freed c = record {
-  content = or_kept (or_kept logged direct) (if freed then None else c.content);
-  version = if (if is_some (or_kept logged direct) then true else freed) then n else c.version;
-  last_logged = if is_some logged then n else c.last_logged;
-  home_version = if is_some direct then n else c.home_version;
-}
-
-cell_after-by : (t : Tx) (b : ℕ) (c : PageCell) → cell_after t b c ≡ cell_by t.number (write_of t.logged b) (write_of t.direct b) (is_among b t.freed) c
+cell_after-by : (t : Tx) (b : ℕ) (c : PageCell) → cell_after t b c ≡ page_by t.number (write_of t.logged b) (write_of t.direct b) (is_among b t.freed) c
 unfolding after
 cell_after-by t b c =
     let both = write_of-append t.logged t.direct b in
@@ -62,17 +54,17 @@ cell_after-by t b c =
       home_version = if is_some (write_of t.direct b) then t.number else c.home_version;
     }
 
-cell_by-same : (n : ℕ) (logged direct : Option (List ℕ)) (freed : Bool) (c : PageCell) → (if is_some (or_kept logged direct) then true else freed) ≡ false → cell_by n logged direct freed c ≡ c
-cell_by-same n (Some x) direct freed c e = absurd (true≢false e)
-cell_by-same n None (Some x) freed c e = absurd (true≢false e)
-cell_by-same n None None true c e = absurd (true≢false e)
-cell_by-same n None None false c e = refl
+page_by-same : (n : ℕ) (logged direct : Option (List ℕ)) (freed : Bool) (c : PageCell) → (if is_some (or_kept logged direct) then true else freed) ≡ false → page_by n logged direct freed c ≡ c
+page_by-same n (Some x) direct freed c e = absurd (true≢false e)
+page_by-same n None (Some x) freed c e = absurd (true≢false e)
+page_by-same n None None true c e = absurd (true≢false e)
+page_by-same n None None false c e = refl
 
 -- a transaction leaves the cell of a block that it doesn't change
 pub cell-left : (t : Tx) (b : ℕ) (c : PageCell) → changes t b ≡ false → cell_after t b c ≡ c
 cell-left t b c e =
     cell_after-by t b c
-    ∙ cell_by-same t.number (write_of t.logged b) (write_of t.direct b) (is_among b t.freed) c (ap (λ z. if is_some z then true else is_among b t.freed) (sym (write_of-append t.logged t.direct b)) ∙ e)
+    ∙ page_by-same t.number (write_of t.logged b) (write_of t.direct b) (is_among b t.freed) c (ap (λ z. if is_some z then true else is_among b t.freed) (sym (write_of-append t.logged t.direct b)) ∙ e)
 
 -- ---- cells
 

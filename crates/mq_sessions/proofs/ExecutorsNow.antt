@@ -47,7 +47,7 @@ module _ {P E : Type 0} {G : Ghosts P} (state : P → PortState) (faults : P →
     pub possible-now : IsSeen μ v → IsPossible group.good g cells
     possible-now seen = (map_now V group seen.0, good-now seen.0 seen.1, agrees-now seen.0 seen.1)
 
-    module _ {Req D : Type 0} (calls : CallView E Req D) (law : DoneGroupsAreOnMaps calls group.good) (q : ℕ) (requests : List Req) (done : D) (on : calls.on_cells g q cells requests done) where
+    module _ {Req Rep D : Type 0} (calls : CallView E Req Rep D) (law : DoneGroupsAreOnMaps calls group.good) (q : ℕ) (requests : List Req) (done : D) (on : calls.on_cells g q cells requests done) where
       pub done-now : IsSeen μ v → IsDoneNow V group calls q requests cells v done
       done-now seen = record {
         known = (law g q cells (map_now V group seen.0) requests done (good-now seen.0 seen.1) (agrees-now seen.0 seen.1) on).0;

@@ -8,5 +8,22 @@ pub mod ReadingGroups
 pub mod WantedFurther
 pub mod WantedMissing
 pub mod PagesBeside
+pub mod DrawnSettled
 pub mod DrawnPages
-pub mod ReversedLists
+pub mod LeavingAfterDraw
+pub mod PlansTold
+pub mod Members
+mod JournalSearching
+pub mod CommittingInHand
+pub mod PreparingRoom
+pub mod ActsCauses
+pub mod ActsUnderWay
+pub mod DrawingSent
+pub mod LawsWritten
+pub mod CommittingOwn
+pub mod Attempts
+pub mod SeatsLeaving
+pub mod SessionsCalled
+pub mod AttemptsComposing
+pub mod AttemptsAgain
+pub mod DrawableGroups

@@ -23,7 +23,7 @@ use Rattle.mq_sessions.specs.Pages.{HoldsPages}
 use Rattle.mq_sessions.specs.declared.asked.Asked.{Asked}
 use Rattle.mq_sessions.proofs.ExecutorsNow.{agrees-now, good-now, shape-is}
 
-module _ {P E Req D : Type 0} {G : Ghosts P} (state : P → PortState) (faults : P → List PortFault) (group : GroupView E) (calls : CallView E Req D) where
+module _ {P E Req Rep D : Type 0} {G : Ghosts P} (state : P → PortState) (faults : P → List PortFault) (group : GroupView E) (calls : CallView E Req Rep D) where
   abbrev V : Values (QueueSide P E G) (Root P G) E
   V = side_values state faults
 

@@ -1,5 +1,4 @@
-use Rattle.std.proofs.Common.{◌≡◌, ◌∙◌, ap, rules}
-use Rattle.std.specs.Prelude.{None}
+use Rattle.std.proofs.Common.{◌∙◌, ap}
 use Rattle.mq_turns.specs.AtDesk.{view}
 use Rattle.mq_turns.specs.Desk.{after_look}
 use Rattle.mq_sessions.proofs.rounds.look_only.Goals as goal

@@ -6,7 +6,7 @@ use Rattle.mq_turns.specs.AtDesk.{view}
 use Rattle.mq_calls.specs.Asking.{changes, memory}
 use Rattle.mq_calls.proofs.Sessions.{keeps-at-once, ready-counted}
 use Rattle.mq_calls.proofs.AskingFirstChange.{at-answer, at-change, at-wanting, none-changes}
-use Rattle.mq_calls.proofs.ActsGoingOn.{goes-at-once}
+use Rattle.mq_sessions.proofs.Attempts.{goes-at-once}
 use Rattle.mq_calls.proofs.asking.Mqfs+P.ask.Goals as goal
 
 pub returns-in-Some-clause-refused : goal.returns-in-Some-clause-refused

@@ -3,7 +3,8 @@ use Rattle.std.specs.Prelude.{false}
 use Rattle.mq_turns.specs.AtDesk.{start_of, view}
 use Rattle.mq_calls.proofs.Sessions.{reads-only, ready-again, ready-read}
 use Rattle.mq_sessions.proofs.WantedFurther.{same-then}
-use Rattle.mq_calls.proofs.ActsGoingOn.{goes-read, goes-same, goes-then}
+use Rattle.mq_calls.specs.Runs.{file_calls}
+use Rattle.mq_sessions.proofs.Attempts.{goes-read, goes-same, goes-then}
 use Rattle.mq_calls.proofs.PagesNotDrawn.{reads-nothing}
 use Rattle.mq_calls.proofs.asking.Mqfs+P.read.Goals as goal
 
@@ -41,4 +42,4 @@ returns-clause-goes g c =
     let v = view c.args.session.now.chair in
     let m = view c.run_held.new.chair in
     let w = view c.read_group.new.chair in
-    goes-then v m w (goes-same v m c.run_held.ensures.same) (goes-read (record { session = c.args.session.now.queue; count = c.args.session.now.calls; durable = false; requests = c.args.requests.now }) c.in_ok-done.done c.in_ok-at.at m w c.in_ok-at.ensures.read)
+    goes-then v m w (goes-same v m c.run_held.ensures.same) (goes-read file_calls (record { session = c.args.session.now.queue; count = c.args.session.now.calls; durable = false; requests = c.args.requests.now }) c.in_ok-done.done c.in_ok-at.at m w c.in_ok-at.ensures.read)

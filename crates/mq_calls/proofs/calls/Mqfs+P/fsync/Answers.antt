@@ -3,7 +3,7 @@ use Rattle.mq_turns.specs.AtDesk.{view}
 use Rattle.mq_calls.specs.Calling.{call_by}
 use Rattle.mq_calls.specs.Synchronizing.{before}
 use Rattle.mq_calls.proofs.ActsComposing.{durable-of, not-durable}
-use Rattle.mq_calls.proofs.ActsGoingOn.{goes-then}
+use Rattle.mq_sessions.proofs.Attempts.{goes-then}
 use Rattle.mq_calls.proofs.calls.Mqfs+P.fsync.Goals as goal
 
 pub returns-in-Ok-drained-clause-goes : goal.returns-in-Ok-drained-clause-goes

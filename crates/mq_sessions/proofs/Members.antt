@@ -1,0 +1,30 @@
+-- What a list contains.
+use Rattle.std.proofs.Common.{get_or, ◌≡◌, ℕ, zero, suc, ◌<◌, ◌⊎◌, inl, inr, List, [], ◌∷◌, length, map, ap, arith}
+use Rattle.std.specs.List.{Contains}
+
+module _ {A : Type 0} where
+  pub cons-cases : (x : A) (xs : List A) (m : A) → Contains (x ∷ xs) m → (x ≡ m) ⊎ Contains xs m
+  cons-cases x xs m c = go c.0 c.1 c.2
+    where
+      go : (k : ℕ) → k < length (x ∷ xs) → get_or (x ∷ xs) k m ≡ m → (x ≡ m) ⊎ Contains xs m
+      go zero l e = inl e
+      go (suc k) l e = inr (k, (let h : k < length xs = omega arith in h), e)
+
+  pub cons-here : (x : A) (xs : List A) (m : A) → x ≡ m → Contains (x ∷ xs) m
+  cons-here x xs m e = (0, (let h : 0 < length (x ∷ xs) = omega arith in h), e)
+
+  pub cons-there : (x : A) (xs : List A) (m : A) → Contains xs m → Contains (x ∷ xs) m
+  cons-there x xs m c = (suc c.0, (let l = c.1 in let h : suc c.0 < length (x ∷ xs) = omega arith in h), c.2)
+
+  pub none-contained : {R : Type 0} (m : A) → Contains [] m → R
+  none-contained m c = let l = c.1 in absurd (omega arith)
+
+  pub map-has : {B : Type 0} (f : A → B) (xs : List A) (m : A) → Contains xs m → Contains (map f xs) (f m)
+  map-has f [] m c = none-contained m c
+  map-has f (x ∷ xs) m c = elim (cons-cases x xs m c) [
+    | inl here ↦ (0, (let h : 0 < length (map f (x ∷ xs)) = omega arith in h), ap f here)
+    | inr there ↦
+        let d = map-has f xs m there in
+        let l = d.1 in
+        (suc d.0, (let h : suc d.0 < length (map f (x ∷ xs)) = omega arith in h), d.2)
+  ]
