@@ -46,7 +46,7 @@ base_low e s v f (inl is) = (let o = f.root.bases.1 in omega (arith, is, o, f.re
 base_low e s v f (inr is) = omega (arith, is, f.reached)
 
 -- one more transaction leaves the bytes of the others' descriptors
-more_texts : (e : Entries) (s : State) (t : Tx) → AreNumbered s.base (t ∷ s.history) → AreSameTexts (entries_in e s).form (entries_in e (draw t s)).form s.history
+pub more_texts : (e : Entries) (s : State) (t : Tx) → AreNumbered s.base (t ∷ s.history) → AreSameTexts (entries_in e s).form (entries_in e (draw t s)).form s.history
 more_texts e s t numbers = record {
   version = refl;
   texts = λ u us txs at.
@@ -68,7 +68,7 @@ draw_keeps e s t f direct revoked allowed =
     let texts = more_texts e s t numbers in
     let k = formed form (side_known e s) in
     let log = log_formed (side_known e s) form texts f.log in
-    let sides : (r : ℕ) → r < s.geometry.queues → SideOk k r (of_queue r s.history) (port_at s.ports r) = λ r inside. side_formed (side_known e s) form texts r (of_queue r s.history) (port_at s.ports r) (λ y v. refl) (f.sides r inside) in
+    let sides : (r : ℕ) → r < s.geometry.queues → SideOk k r (of_queue r s.history) (port_at s.ports r) = λ r inside. side_formed (side_known e s) form texts r (of_queue r s.history) (port_at s.ports r) (f.sides r inside) in
     let may : MayDraw k t = record { form = m.form; number = m.number; limit = m.limit; freed = m.freed; free = m.free; settled = m.settled; revoked = m.revoked } in
     let own = may.form.queue in
     let mine = sides t.queue own in
@@ -92,7 +92,7 @@ draw_keeps e s t f direct revoked allowed =
             subst (λ txs. SideOk (draw_known t k) r txs (port_at s.ports r)) (sym grown) (side_extends (draw_known t k) r t (of_queue r s.history) (port_at s.ports r) ([], grown) past there room')
         | inr not ↦ subst (λ txs. SideOk (draw_known t k) r txs (port_at s.ports r)) (sym (of_queue-other r t s.history not)) (side_drawn k t log may.number new r (of_queue r s.history) (port_at s.ports r) (sides r inside))
       ];
-      root = root_drawn k t log may.number new s.root (root_formed (side_known e s) form texts s.root (λ y v. refl) f.root);
+      root = root_drawn k t log may.number new s.root (root_formed (side_known e s) form texts s.root f.root);
       reached = (let r : s.root.stored_base ≤ front k = f.reached in omega (arith, r, same));
       homes = λ x v content inside base there none.
           let l : v ≤ front k = base_low e s v f base in

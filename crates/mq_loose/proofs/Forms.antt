@@ -1,6 +1,6 @@
 -- What is known of a journal whose descriptors have another form, where these have the same bytes in both.
-use Rattle.std.proofs.Common.{◌≡◌, ℕ, ◌-◌, ltb, false, List, [], ◌∷◌, length, take, drop, sym, refl, ap, subst, ◌∙◌, inl, inr}
-use Rattle.std.proofs.lemmas.Bool.{cases_lt, cases_Bool, false≢true}
+use Rattle.std.proofs.Common.{◌≡◌, ℕ, ◌-◌, ltb, List, [], ◌∷◌, length, take, drop, sym, refl, ap, subst, ◌∙◌, inl, inr}
+use Rattle.std.proofs.lemmas.Bool.{cases_lt, cases_Bool}
 use Rattle.mq_blocks.specs.Descriptor.{DescriptorForm, last_block, further_block}
 use Rattle.mq_blocks.specs.Drive.{PortState}
 use Rattle.mq_blocks.specs.declared.command.Command.{Command}
@@ -67,11 +67,11 @@ module _ (k : KnownJournal) (g : DescriptorForm) (same : AreSameTexts k.entries.
     each = λ t ts at. (let e = log.each t ts at in (e.0, record { free = e.1.free; settled = e.1.settled; hidden = e.1.hidden }));
   }
 
-  pub root_formed : (p : PortState) → ((y v : ℕ) → k.due y v ≡ false) → RootOk k p → RootOk (formed g k) p
-  root_formed p never r = record { port = r.port; posted = r.posted; bases = r.bases; homes = λ y v content inside z due there m. absurd (false≢true (sym (never y v) ∙ due)) }
+  pub root_formed : (p : PortState) → RootOk k p → RootOk (formed g k) p
+  root_formed p r = record { port = r.port; posted = r.posted; bases = r.bases; homes = r.homes }
 
-  pub side_formed : (q : ℕ) (txs : List Tx) (p : PortState) → ((y v : ℕ) → k.due y v ≡ false) → SideOk k q txs p → SideOk (formed g k) q txs p
-  side_formed q txs p never s =
+  pub side_formed : (q : ℕ) (txs : List Tx) (p : PortState) → SideOk k q txs p → SideOk (formed g k) q txs p
+  side_formed q txs p s =
       let from = k.from q in
       let f = k.entries.form in
       let bytes : (c : ℕ) → bytes_of f (item_at from txs c).content ≡ bytes_of g (item_at from txs c).content = λ c. items_same f g k.history same from txs c (λ t vs at.
@@ -102,5 +102,5 @@ module _ (k : KnownJournal) (g : DescriptorForm) (same : AreSameTexts k.entries.
         based = s.based;
         done = s.done;
         direct = λ c x low d target m. subst (λ v. Certainly p (home_index k.geometry x) v) (bytes c) (s.direct c x low d target m);
-        homes = λ y v content inside z due there m. absurd (false≢true (sym (never y v) ∙ due));
+        homes = s.homes;
       }

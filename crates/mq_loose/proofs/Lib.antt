@@ -12,7 +12,7 @@ mod Machines
 mod Tellings
 mod Running
 mod Starts
-mod RowLists
-mod Flags
-mod Staged
-mod Lasts
+pub mod RowLists
+pub mod Flags
+pub mod Staged
+pub mod Lasts

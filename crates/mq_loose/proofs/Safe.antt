@@ -263,7 +263,7 @@ module _ (e : Entries) (s : State) (i : Shown) (f : Facts e s) (cut : IsCut e s 
       let one : (t.0 ∷ t.1) ≡ (u.0 ∷ u.1) = at_same s.base t.0 u.0 t.1 u.1 s.history f.log.numbers t.2 u.2 (t.4 ∙ same ∙ sym u.4) in
       apart (sym t.3 ∙ ap head_queue one ∙ u.3)
 
-  all_chains : AreWhole s.geometry i (λ q. descriptors i.base (chain_at q))
+  pub all_chains : AreWhole s.geometry i (λ q. descriptors i.base (chain_at q))
   all_chains =
       let reached : i.base ≤ front k = base_reached e s i f cut in
       let front_low = part_le k.done s.history in
@@ -275,13 +275,13 @@ module _ (e : Entries) (s : State) (i : Shown) (f : Facts e s) (cut : IsCut e s 
 
   -- ---- the set
 
-  abbrev chains : ℕ → List Descriptor
+  abbrev pub chains : ℕ → List Descriptor
   chains q = descriptors i.base (chain_at q)
 
-  abbrev deps : ℕ → List ℕ
+  abbrev pub deps : ℕ → List ℕ
   deps = deps_of s.base s.history
 
-  abbrev ds : List Descriptor
+  abbrev pub ds : List Descriptor
   ds = rows_in (set_of s i) i.base s.history
 
   in_chain : (t : Tx) (ts : List Tx) → IsWhole s i t ts → Has (chains t.queue) (descriptor_for t (of_queue t.queue ts))
@@ -313,13 +313,13 @@ module _ (e : Entries) (s : State) (i : Shown) (f : Facts e s) (cut : IsCut e s 
   high_base = (let p = part_le k.done s.history in omega (arith, base_reached e s i f cut, p))
 
   -- the numbers of the set are those of the closure
-  set_at : (n : ℕ) → in_set i.base ds n ≡ set_of s i n
+  pub set_at : (n : ℕ) → in_set i.base ds n ≡ set_of s i n
   set_at n = elim (cases_lt i.base n) [
     | inr low ↦ or_left (leb n i.base) _ (le-leb n i.base low) ∙ sym (set_low e s i f cut n low)
     | inl past ↦ rw (lt-leb _ _ past) (rows_among (set_of s i) s.base i.base s.history n f.log.numbers low_base past (λ m. closure-high (is_whole s i) s.base s.history n f.log.numbers m))
   ]
 
-  set_is : in_set i.base ds ≡ set_of s i
+  pub set_is : in_set i.base ds ≡ set_of s i
   set_is = λ j n. set_at n j
 
   in_chains : AreInChains s.geometry chains ds
@@ -402,7 +402,7 @@ module _ (e : Entries) (s : State) (i : Shown) (f : Facts e s) (cut : IsCut e s 
       let m = closure_greatest (is_whole s i) s.base s.history (in_set i.base es) f.log.numbers (closed_list es inside met_is) (λ t ts at u. listed_whole es inside t ts at u) d.number e (omega (arith, number, most)) in
       subst (λ v. Has ds v) o.is (has_rows (set_of s i) s.base i.base o.t o.ts s.history f.log.numbers o.at (omega (arith, number, past)) (subst (λ n. set_of s i n ≡ true) (sym number) m))
 
-  standing : AreStanding deps s.geometry i chains ds
+  pub standing : AreStanding deps s.geometry i chains ds
   standing = record {
     falls = rows_fall (set_of s i) s.base i.base s.history f.log.numbers;
     whole = in_chains;
@@ -410,7 +410,7 @@ module _ (e : Entries) (s : State) (i : Shown) (f : Facts e s) (cut : IsCut e s 
     greatest = greatest;
   }
 
-  loose : (q : ℕ) (d : Descriptor) → q < s.geometry.queues → Has (chains q) d → IsLoose d (deps d.number)
+  pub loose : (q : ℕ) (d : Descriptor) → q < s.geometry.queues → Has (chains q) d → IsLoose d (deps d.number)
   loose q d own has =
       let o = of_chain q d has in
       let plain = f.plain o.t o.ts o.at in

@@ -8,6 +8,6 @@ mod machine;
 
 pub use event::{LooseEvent, LooseTx};
 pub use laws::every_loose_run_is_safe;
-pub use machine::LooseCore;
+pub use machine::{LooseCore, LooseRow, are_flagged, row_with};
 pub use mq_core::CoreRefusal;
 pub use mq_loose_order::Numbers;

@@ -19,7 +19,8 @@ ghost use Rattle.mq_loose.specs.Safe.{Facts, IsSafe};
 use mq_blocks::{BlockNo, Geometry, OutOfMemory, TxNo};
 use mq_core::{PlainPort, fresh_queues, starts};
 use mq_ledger::{Content, Ledger, copy_blocks};
-use rows::LooseRow;
+pub use rows::{LooseRow, row_with};
+pub use settled::are_flagged;
 use std::alloc::Global;
 use std::marker::Model;
 

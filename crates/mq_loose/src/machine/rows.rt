@@ -9,7 +9,7 @@ ghost use Rattle.mq_loose_order.specs.Dependence.{depends_on};
 ghost use Rattle.mq_loose.specs.Rows.{newest_number, row_for};
 
 use mq_area::Descriptor;
-use mq_blocks::{BlockNo, OutOfMemory, QueueNo};
+use mq_blocks::{BlockNo, OutOfMemory, QueueNo, TxNo};
 use mq_ledger::{Content, Tx};
 use mq_loose_order::Numbers;
 use std::alloc::Global;
@@ -31,6 +31,52 @@ impl LooseRow {
     {
         let descriptor = &self.descriptor;
         descriptor.number
+    }
+}
+
+/// The row of the transaction of a number that logs these blocks and nothing else, where its queue ends at this
+/// count and place, after a transaction of this number.
+pub fn row_with(
+    alloc: Global,
+    number: TxNo,
+    queue: QueueNo,
+    logged: Vec<BlockNo>,
+    deps: Numbers,
+    end: u64,
+    place: u64,
+    prev_number: u64,
+) -> LooseRow
+    requires few { length logged.items < 2 ^ 16 }
+    requires end { end ≤ number_limit }
+    requires place { place ≤ 2 ^ 62 }
+    ensures { (base : ℕ) (starts : List ℕ) (t : Record) (ts : List Record)
+        → t.number ≡ number
+        → t.queue ≡ queue
+        → blocks_of t.logged ≡ logged.items
+        → t.direct ≡ []
+        → t.revoked ≡ []
+        → further_blocks t ≡ 0
+        → end ≡ end_of (from_at starts t.queue) (of_queue t.queue ts)
+        → place ≡ next (of_queue t.queue ts)
+        → prev_number ≡ number_before (of_queue t.queue ts)
+        → deps ≡ depends_on base t ts
+        → result ≡ row_for base starts t ts }
+{
+    let copies = logged.len() as u64;
+    let descriptor = Descriptor {
+        queue: queue.0,
+        number: number.0,
+        place: place + copies,
+        prev_place: place.saturating_sub(1),
+        prev_number,
+        logged,
+        revoked: Vec::new(alloc),
+    };
+    LooseRow {
+        queue,
+        end: end + (copies + 1),
+        descriptor,
+        deps,
     }
 }
 
@@ -57,22 +103,16 @@ pub fn row_of(
         → r ≡ row_for base starts tx.now ts) }
 {
     let logged = logged_blocks(alloc, tx.logged.as_slice())?;
-    let copies = logged.len() as u64;
-    let descriptor = Descriptor {
-        queue: tx.queue.0,
-        number: tx.number.0,
-        place: place + copies,
-        prev_place: place.saturating_sub(1),
-        prev_number,
+    Ok(row_with(
+        alloc,
+        tx.number,
+        tx.queue,
         logged,
-        revoked: Vec::new(alloc),
-    };
-    Ok(LooseRow {
-        queue: tx.queue,
-        end: end + (copies + 1),
-        descriptor,
         deps,
-    })
+        end,
+        place,
+        prev_number,
+    ))
 }
 
 /// The blocks that these writes write.

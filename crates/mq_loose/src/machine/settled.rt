@@ -24,7 +24,7 @@ fn is_row_done(row: &LooseRow, ports: &[PlainPort]) -> bool
 }
 
 /// Whether all of these numbers above the base have their flag, of flags by rising number.
-fn are_flagged(flags: &[bool], base: u64, numbers: &[TxNo]) -> bool
+pub fn are_flagged(flags: &[bool], base: u64, numbers: &[TxNo]) -> bool
     requires { (n : ℕ) → is_among n numbers.now ≡ true → (base < n) × (n ≤ base + length flags.now) }
     ensures { result ≡ all_in (flag_of base flags.now) numbers.now }
 {

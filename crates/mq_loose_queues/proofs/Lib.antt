@@ -1,0 +1,15 @@
+pub mod Ports
+pub mod Sides
+pub mod Heads
+pub mod Drained
+pub mod Calls
+pub mod Opened
+pub mod Recovered
+pub mod Tables
+pub mod Drawn
+pub mod Readied
+pub mod Sent
+pub mod DrawCalls
+pub mod Committed
+pub mod Core
+pub mod StaySettled

@@ -1,0 +1,9 @@
+pub mod Changes
+pub mod Queues
+pub mod Journal
+pub mod Opening
+pub mod Commits
+pub mod Draws
+pub mod Drains
+pub mod Laws
+pub mod Rings
