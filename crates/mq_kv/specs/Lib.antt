@@ -1,0 +1,4 @@
+pub mod Opening
+pub mod Seats
+pub mod Calls
+pub mod Laws
