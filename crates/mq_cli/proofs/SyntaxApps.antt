@@ -6,7 +6,7 @@ use Rattle.clap.specs.Words.{App, IsAmong, Kinds, Rule, Text, is_simple, is_simp
 use Rattle.clap.specs.declared.error.kind.ErrorKind.{ErrorKind}
 use Rattle.mq_cli.specs.Syntax.{app_for, app_with, name_rule, option_rule, repeated_rules}
 use Rattle.mq_cli.specs.declared.verb.Verb.{Verb}
-use Rattle.mq_cli.specs.declared.verb.Verb.TheVariants.{Blocks, Format, Run, Recover, Ls, Cat, Gen, Dump, Check, Audit, Replicate}
+use Rattle.mq_cli.specs.declared.verb.Verb.TheVariants.{Blocks, Format, Run, Recover, Ls, Cat, Gen, Dump, Check, Audit, Replicate, Loose}
 
 -- one name more
 pub name_more : (verb : Text) (names : List Text) (name : Text) → with_rule (app_with verb names None []) (name_rule name) ≡ app_with verb (names ++ name ∷ []) None []
@@ -44,6 +44,7 @@ simple_and_free Dump = refl
 simple_and_free Check = refl
 simple_and_free Audit = refl
 simple_and_free Replicate = refl
+simple_and_free Loose = refl
 
 pub simple : (v : Verb) → is_simple (app_for v) ≡ true
 unfolding app_for
@@ -58,6 +59,7 @@ simple Dump = refl
 simple Check = refl
 simple Audit = refl
 simple Replicate = refl
+simple Loose = refl
 
 -- a kind is among some
 pub some_kind : (k : ErrorKind) (kinds : Kinds) → IsAmong k kinds → kinds ≢ []

@@ -30,6 +30,7 @@ pub data Asked : Type 0 where
   check : (image : Text) → Asked
   audit : (trace : Text) → Asked
   replicate : (file : Text) → (seed : Option ℕ) → (save : Option Text) → Asked
+  loose : (file : Text) → (cut pick : Option ℕ) → (save : Option Text) → Asked
   help : Option Verb → Asked
   version : Asked
 
@@ -138,6 +139,10 @@ abbrev pub replicate_by : Option Text → (seed : Option (Option ℕ)) → (save
 replicate_by (Some file) (Some seed) save = Some (replicate file seed save)
 replicate_by _ _ _ = None
 
+abbrev pub loose_by : Option Text → (cut pick : Option (Option ℕ)) → (save : Option Text) → Option Asked
+loose_by (Some file) (Some cut) (Some pick) save = Some (loose file cut pick save)
+loose_by _ _ _ _ = None
+
 -- the number of a name that is found
 abbrev pub word_in : Option Text → Option ℕ
 word_in word = option_and_then (number_within word_end) word
@@ -172,6 +177,9 @@ asked_by verb.Check rows = option_map check (first_of (codes "image") rows)
 asked_by verb.Audit rows = option_map audit (first_of (codes "trace") rows)
 asked_by verb.Replicate rows = replicate_by (first_of (codes "file") rows)
     (number_option (first_of (codes "seed") rows)) (first_of (codes "save") rows)
+asked_by verb.Loose rows = loose_by (first_of (codes "file") rows)
+    (number_option (first_of (codes "cut") rows)) (number_option (first_of (codes "pick") rows))
+    (first_of (codes "save") rows)
 
 -- ---- what words ask
 
@@ -220,6 +228,7 @@ asked (command.Dump image) = dump image.now
 asked (command.Check image) = check image.now
 asked (command.Audit trace) = audit trace.now
 asked (command.Replicate file seed save) = replicate file.now seed (option_map (λ s. s.now) save)
+asked (command.Loose file cut pick save) = loose file.now cut pick (option_map (λ s. s.now) save)
 asked (command.Help verb) = help verb
 asked command.Version = version
 
@@ -251,6 +260,8 @@ HasSmallNumbers (command.Recover image cut pick) =
     IfSome cut (λ n. n < number_end) × IfSome pick (λ n. n < number_end)
 HasSmallNumbers (command.Gen seed threads groups save) = AreSmallOfGen seed threads groups
 HasSmallNumbers (command.Replicate file seed save) = IfSome seed (λ n. n < number_end)
+HasSmallNumbers (command.Loose file cut pick save) =
+    IfSome cut (λ n. n < number_end) × IfSome pick (λ n. n < number_end)
 HasSmallNumbers _ = Unit {0}
 
 -- a run has at least one script

@@ -16,8 +16,9 @@ program_help =
     ++ (codes "  mqfs dump IMAGE\n"
     ++ (codes "  mqfs check IMAGE\n"
     ++ (codes "  mqfs audit TRACE\n"
-    ++ (codes "  mqfs replicate FILE [--seed S] [--save NAME]\n\n"
-    ++ (codes "mqfs COMMAND --help says more of a command.\n"))))))))))))
+    ++ (codes "  mqfs replicate FILE [--seed S] [--save NAME]\n"
+    ++ (codes "  mqfs loose FILE [--cut K] [--pick S] [--save NAME]\n\n"
+    ++ (codes "mqfs COMMAND --help says more of a command.\n")))))))))))))
 
 unfoldable pub blocks_help : List ℕ
 blocks_help =
@@ -113,6 +114,18 @@ replicate_help =
     ++ (codes "  --save NAME  saves the image of the replica\n\n"
     ++ (codes "Example: mqfs replicate examples/frees.txt --seed 3\n"))))))
 
+unfoldable pub loose_help : List ℕ
+loose_help =
+    codes "mqfs loose FILE [--cut K] [--pick S] [--save NAME]\n\n"
+    ++ (codes "Runs FILE on a fresh drive of four queues in the loose order. A line is a queue\n"
+    ++ (codes "and the items of a transaction, or done and a queue, which drains it. Cuts the\n"
+    ++ (codes "power, and prints the transactions that were acknowledged, those that stand, and\n"
+    ++ (codes "the blocks that these leave.\n\n"
+    ++ (codes "  --cut K      the power goes off after K events, else at the end\n"
+    ++ (codes "  --pick S     chooses what a cut leaves of what is not certain, else 0\n"
+    ++ (codes "  --save NAME  saves the image that the cut left\n\n"
+    ++ (codes "Example: mqfs loose examples/loose.txt --cut 9\n"))))))))
+
 abbrev pub help_text : Option Verb → List ℕ
 help_text None = program_help
 help_text (Some verb.Blocks) = blocks_help
@@ -126,6 +139,7 @@ help_text (Some verb.Dump) = dump_help
 help_text (Some verb.Check) = check_help
 help_text (Some verb.Audit) = audit_help
 help_text (Some verb.Replicate) = replicate_help
+help_text (Some verb.Loose) = loose_help
 
 abbrev pub version_line : List ℕ
 version_line = codes "mqfs 0.1.0\n"

@@ -4,7 +4,7 @@ use Rattle.clap.specs.Words.{App, Rule, Text, new_rule}
 use Rattle.clap.specs.Simple.{new_shape}
 use Rattle.clap.specs.declared.builder.action.ArgAction.TheVariants as action
 use Rattle.mq_cli.specs.declared.verb.Verb.{Verb}
-use Rattle.mq_cli.specs.declared.verb.Verb.TheVariants.{Blocks, Format, Run, Recover, Ls, Cat, Gen, Dump, Check, Audit, Replicate}
+use Rattle.mq_cli.specs.declared.verb.Verb.TheVariants.{Blocks, Format, Run, Recover, Ls, Cat, Gen, Dump, Check, Audit, Replicate, Loose}
 
 -- ---- the commands by name
 
@@ -20,6 +20,7 @@ verb_text Dump = codes "dump"
 verb_text Check = codes "check"
 verb_text Audit = codes "audit"
 verb_text Replicate = codes "replicate"
+verb_text Loose = codes "loose"
 
 abbrev pub verb_of : Text → Option Verb
 verb_of word =
@@ -34,6 +35,7 @@ verb_of word =
     else if bytes_eq word (codes "check") then Some Check
     else if bytes_eq word (codes "audit") then Some Audit
     else if bytes_eq word (codes "replicate") then Some Replicate
+    else if bytes_eq word (codes "loose") then Some Loose
     else None
 
 -- ---- their words
@@ -51,6 +53,7 @@ names_for Dump = codes "image" ∷ []
 names_for Check = codes "image" ∷ []
 names_for Audit = codes "trace" ∷ []
 names_for Replicate = codes "file" ∷ []
+names_for Loose = codes "file" ∷ []
 
 -- the name behind these of which it wants one or more words, where it has one
 abbrev pub repeated_for : Verb → Option Text
@@ -65,6 +68,7 @@ repeated_for Dump = None
 repeated_for Check = None
 repeated_for Audit = None
 repeated_for Replicate = None
+repeated_for Loose = None
 
 -- the options that it takes, each with a value
 abbrev pub options_for : Verb → List Text
@@ -79,6 +83,7 @@ options_for Dump = []
 options_for Check = []
 options_for Audit = []
 options_for Replicate = codes "seed" ∷ codes "save" ∷ []
+options_for Loose = codes "cut" ∷ codes "pick" ∷ codes "save" ∷ []
 
 -- a name, which has to stand as one word
 abbrev pub name_rule : Text → Rule

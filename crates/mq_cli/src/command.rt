@@ -97,6 +97,15 @@ pub enum Command<'a> {
         /// The name under which the image of the replica is saved.
         save: Option<&'a str>,
     },
+    Loose {
+        file: &'a str,
+        /// The number of events after which the power goes off.
+        cut: Option<u64>,
+        /// The seed of the choice of what is uncertain at the cut.
+        pick: Option<u64>,
+        /// The name under which the image that the cut left is saved.
+        save: Option<&'a str>,
+    },
     /// Help on a command, or on the program.
     Help(Option<Verb>),
     Version,

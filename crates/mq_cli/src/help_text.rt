@@ -1,6 +1,6 @@
 // What the program says of itself and of each command.
 ghost use Rattle.std.specs.Prelude.{◌≡◌};
-ghost use Rattle.mq_cli.specs.Help.{audit_help, blocks_help, cat_help, check_help, dump_help, format_help, gen_help, help_text, ls_help, program_help, recover_help, replicate_help, run_help, version_line as version_text};
+ghost use Rattle.mq_cli.specs.Help.{audit_help, blocks_help, cat_help, check_help, dump_help, format_help, gen_help, help_text, loose_help, ls_help, program_help, recover_help, replicate_help, run_help, version_line as version_text};
 
 use crate::verb::Verb;
 
@@ -21,6 +21,7 @@ fn program_text() -> &'static str
   mqfs check IMAGE
   mqfs audit TRACE
   mqfs replicate FILE [--seed S] [--save NAME]
+  mqfs loose FILE [--cut K] [--pick S] [--save NAME]
 
 mqfs COMMAND --help says more of a command.
 "
@@ -191,6 +192,25 @@ Example: mqfs replicate examples/frees.txt --seed 3
 "
 }
 
+#[tactic(auto, unfolding(crate::specs::Help::loose_help))]
+fn loose_text() -> &'static str
+    ensures { result.now ≡ loose_help }
+{
+    "mqfs loose FILE [--cut K] [--pick S] [--save NAME]
+
+Runs FILE on a fresh drive of four queues in the loose order. A line is a queue
+and the items of a transaction, or done and a queue, which drains it. Cuts the
+power, and prints the transactions that were acknowledged, those that stand, and
+the blocks that these leave.
+
+  --cut K      the power goes off after K events, else at the end
+  --pick S     chooses what a cut leaves of what is not certain, else 0
+  --save NAME  saves the image that the cut left
+
+Example: mqfs loose examples/loose.txt --cut 9
+"
+}
+
 /// The help on a command, or on the program.
 pub fn help_on(topic: Option<Verb>) -> &'static str
     ensures { result.now ≡ help_text topic }
@@ -208,6 +228,7 @@ pub fn help_on(topic: Option<Verb>) -> &'static str
         Some(Verb::Check) => check_text(),
         Some(Verb::Audit) => audit_text(),
         Some(Verb::Replicate) => replicate_text(),
+        Some(Verb::Loose) => loose_text(),
     }
 }
 

@@ -237,6 +237,26 @@ fn replicate<'a>(matches: &ArgMatches<'a>) -> Result<Command<'a>, WordsRefusal>
     Ok(Command::Replicate { file, seed, save })
 }
 
+// What is found of `loose` asks.
+fn loose<'a>(matches: &ArgMatches<'a>) -> Result<Command<'a>, WordsRefusal>
+    ensures asks { MatchResult result (λ c. asked_by verb.Loose (rows_of (found_of matches.now)) ≡ Some (asked c))
+        (λ e. (e ≡ WordsRefusal.Unknown)
+        × (asked_by verb.Loose (rows_of (found_of matches.now)) ≡ None)) }
+    ensures small { IfOk result HasSmallNumbers }
+    ensures script { IfOk result HasScript }
+{
+    let file = name(matches, "file")?;
+    let cut = number(matches, "cut")?;
+    let pick = number(matches, "pick")?;
+    let save = found(matches, "save");
+    Ok(Command::Loose {
+        file,
+        cut,
+        pick,
+        save,
+    })
+}
+
 // What is found of a command asks.
 fn command_of<'a>(
     alloc: Global,
@@ -273,6 +293,7 @@ fn command_of<'a>(
             Ok(Command::Audit { trace })
         }
         Verb::Replicate => replicate(matches),
+        Verb::Loose => loose(matches),
     }
 }
 

@@ -20,6 +20,7 @@ pub fn names<'a>(verb: Verb) -> &'a [&'a str]
         Verb::Check => &["image"],
         Verb::Audit => &["trace"],
         Verb::Replicate => &["file"],
+        Verb::Loose => &["file"],
     }
 }
 
@@ -38,7 +39,8 @@ pub fn repeated<'a>(verb: Verb) -> Option<&'a str>
         | Verb::Dump
         | Verb::Check
         | Verb::Audit
-        | Verb::Replicate => None,
+        | Verb::Replicate
+        | Verb::Loose => None,
     }
 }
 
@@ -52,6 +54,7 @@ pub fn options<'a>(verb: Verb) -> &'a [&'a str]
         Verb::Recover => &["cut", "pick"],
         Verb::Gen => &["save"],
         Verb::Replicate => &["seed", "save"],
+        Verb::Loose => &["cut", "pick", "save"],
         Verb::Format | Verb::Ls | Verb::Cat | Verb::Dump | Verb::Check | Verb::Audit => &[],
     }
 }

@@ -16,6 +16,7 @@ pub enum Verb {
     Check,
     Audit,
     Replicate,
+    Loose,
 }
 
 impl Verb {
@@ -35,6 +36,7 @@ impl Verb {
             Verb::Check => "check",
             Verb::Audit => "audit",
             Verb::Replicate => "replicate",
+            Verb::Loose => "loose",
         }
     }
 }
@@ -55,6 +57,7 @@ pub fn read_verb(word: &str) -> Option<Verb>
         "check" => Some(Verb::Check),
         "audit" => Some(Verb::Audit),
         "replicate" => Some(Verb::Replicate),
+        "loose" => Some(Verb::Loose),
         _ => None,
     }
 }

@@ -6,7 +6,7 @@ use Rattle.std.specs.Prelude.{nat_eq, option_to_list}
 use Rattle.std.specs.Option.{unwrap_or}
 use Rattle.mq_block_text.specs.declared.item.BlockItem.{BlockItem}
 use Rattle.mq_block_trace.specs.Prefixes.{IsPrefixAt}
-use Rattle.mq_cli.specs.Asked.{Asked, Words, asked_of, audit, blocks, cat, check, dump, format, gen, help, ls, recover, replicate, run, version}
+use Rattle.mq_cli.specs.Asked.{Asked, Words, asked_of, audit, blocks, cat, check, dump, format, gen, help, loose, ls, recover, replicate, run, version}
 use Rattle.mq_cli.specs.declared.command.BlocksOptions.{BlocksOptions}
 use Rattle.mq_cli.specs.declared.command.RunFlags.{RunFlags}
 use Rattle.mq_command_audit.specs.Audits.{Audits}
@@ -27,12 +27,18 @@ use Rattle.mq_command_images.specs.Recovers as recovers
 use Rattle.mq_command_io.specs.Ending.{EndsWith, IsLoaded, IsNotLoaded, IsNotSaved, SaysOf, fault_line, load_failed, load_memory, load_too_long, memory_line, save_failed, save_line, save_memory, too_long_line}
 use Rattle.mq_command_io.specs.Ending as ending
 use Rattle.mq_command_io.proofs.Ending.{not-loaded-same}
+use Rattle.mq_command_loose.specs.SaysOfLoose.{SaysOfLoose}
+use Rattle.mq_command_loose.specs.SaysOfLoose as loose_says
 use Rattle.mq_command_replicate.specs.Replicas.{IsReplicaOf}
 use Rattle.mq_command_replicate.specs.Replicates.{Replicates}
 use Rattle.mq_command_replicate.specs.Replicates as replicates
 use Rattle.mq_command_run.specs.RunsScripts.{AreLoaded, RefusesRunning, RefusesScript, RefusesScripts, Runs, are_wanting, ran}
 use Rattle.mq_command_run.specs.RunsScripts as runs
 use Rattle.mq_image.specs.File.{DriveImage, image_bytes}
+use Rattle.mq_loose_run.specs.Runs.{IsLeftLoose}
+use Rattle.mq_loose_text.specs.Meaning.{IsSetIn}
+use Rattle.mq_loose_text.specs.Text.{IsLooseText}
+use Rattle.mq_loose_text.specs.declared.line.LooseLine.{LooseLine}
 use Rattle.mq_outside.specs.Outside.{AppendsPrefix, FilesState, Holds, SinkState, appended}
 use Rattle.mq_script.specs.Scripts.{Script}
 use Rattle.mqfs.specs.Course.{AreGiven, AreRead, Course, IsCause, IsCutOff, IsFault, IsOutOfMemory, IsWhole, KeepsOrGives, ends_at_cause, ends_at_load, ends_at_save, ends_whole, of_line, of_load, of_memory, of_output, of_save}
@@ -153,6 +159,23 @@ of-replicate file seed save old new status text (replicates.not_saved bytes line
     ends_at_save [] [] name mid mid (ap (λ (o : Option (List ℕ)). option_to_list o) asks) (bytes, mid, load, refl) refl not
 of-replicate file seed save old new _ _ (replicates.wants_memory bytes load) = by-cause (replicate file seed save) file [] refl old new 6 memory_line bytes load (inr (inr (refl, refl)))
 
+-- ---- `loose`
+
+module _ (file : List ℕ) (cut pick : Option ℕ) (old : FilesState) where
+  loose-given : (text : List ℕ) (lines : List LooseLine) (set : ℕ → Bool) (x : DriveImage) → Holds old.contents file text → IsLooseText text lines → IsSetIn cut lines set → IsLeftLoose cut lines set x
+      → (save : Option (List ℕ)) (mid new : FilesState) → SavesLeft save x mid new → AreGiven (loose file cut pick save) old (option_to_list save) mid new
+  loose-given text lines set x holds is set_in left None mid new saves = saves
+  loose-given text lines set x holds is set_in left (Some name) mid new saves = (image_bytes x, new, (text, lines, set, x, holds, is, set_in, left, refl, refl), saves, refl)
+
+  of-loose : (save : Option (List ℕ)) (new : FilesState) (status : ℕ) (text : List ℕ) → SaysOfLoose file cut save old new status text → Course (loose file cut pick save) old new status text
+  of-loose save new _ _ (loose_says.printed bytes lines set x mid load is set_in left saves) =
+      ends_whole mid (bytes, mid, load, refl) (loose-given bytes lines set x load.holds is set_in left save mid new saves) (inl refl)
+  of-loose save new _ _ (loose_says.refused bytes line load refuses) = by-cause (loose file cut pick save) file [] refl old new 2 _ bytes load (inl refl)
+  of-loose save new status text (loose_says.not_loaded not) = by-load (loose file cut pick save) file [] refl old new status text not
+  of-loose save new status text (loose_says.not_saved bytes lines name mid asks load is not) =
+      ends_at_save [] [] name mid mid (ap (λ (o : Option (List ℕ)). option_to_list o) asks) (bytes, mid, load, refl) refl not
+  of-loose save new _ _ (loose_says.wants_memory bytes load) = by-cause (loose file cut pick save) file [] refl old new 6 memory_line bytes load (inr (inr (refl, refl)))
+
 -- ---- `format`, `recover`, `gen`
 
 of-format : (image : List ℕ) (queues area meta zone : ℕ) (old new : FilesState) (status : ℕ) (text : List ℕ) → Formats (numbers queues area meta zone) image old new status text → Course (format image queues area meta zone) old new status text
@@ -254,6 +277,7 @@ course (dump image) old new status text says = of-image (dump image) image refl 
 course (check image) old new status text says = of-image (check image) image refl refl Checks checks old new status text says
 course (audit trace) old new status text says = of-audit trace old new status text says
 course (replicate file seed save) old new status text says = of-replicate file seed save old new status text says
+course (loose file cut pick save) old new status text says = of-loose file cut pick old save new status text says
 course (help topic) old new status text says = of-line-only (help topic) refl refl _ old new status text says
 course version old new status text says = of-line-only version refl refl _ old new status text says
 

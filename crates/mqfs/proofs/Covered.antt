@@ -1,8 +1,7 @@
 -- Whatever files tell is decided: what there was to say, and with which status, shows what they hold.
-use Rattle.std.proofs.Common.{◌≡◌, ◌≢◌, ◌≤◌, ◌⊎◌, inl, inr, ℕ, Bool, true, false, List, [], ◌∷◌, length, Option, Some, None, refl, sym, ◌∙◌, ap, subst, arith}
+use Rattle.std.proofs.Common.{◌≡◌, ◌≢◌, ◌≤◌, ◌⊎◌, inl, inr, ℕ, Bool, true, false, List, [], ◌∷◌, length, Option, Some, None, refl, sym, ◌∙◌, ap, subst}
 use Rattle.std.specs.Prelude.{if◌then◌else◌}
 use Rattle.std.specs.Option.{unwrap_or}
-use Rattle.mq_audit.specs.Traces.{Trace}
 use Rattle.mq_blocks.specs.Geometry.{queues_of}
 use Rattle.mq_cli.specs.declared.command.BlocksOptions.{BlocksOptions}
 use Rattle.mq_command_audit.specs.Audits.{Audits, accepts, misreads}
@@ -20,6 +19,8 @@ use Rattle.mq_command_images.specs.Recovers as recovers
 use Rattle.mq_command_images.specs.declared.formatting.Numbers.{Numbers}
 use Rattle.mq_command_io.specs.Ending.{EndsWith, IsLoaded, IsNotLoaded, IsNotSaved, SaysOf, load_failed, load_memory, load_too_long, save_failed, save_memory}
 use Rattle.mq_command_io.specs.Ending as ending
+use Rattle.mq_command_loose.specs.SaysOfLoose.{LooseDecides, SaysOfLoose}
+use Rattle.mq_command_loose.specs.SaysOfLoose as loose_says
 use Rattle.mq_command_replicate.specs.Replicates.{Replicates}
 use Rattle.mq_command_replicate.specs.Replicates as replicates
 use Rattle.mq_command_run.specs.RunsScripts.{AreLoaded, HoldBadScript, HoldScripts, RefusesRunning, RefusesScript, RefusesScripts, Runs, are_wanting, no_run, no_scripts, not_run, ran, run_status}
@@ -40,10 +41,10 @@ use Rattle.mq_outside.specs.Outside.{FilesState, Held, Holds, SinkState, Tells}
 use Rattle.mq_run_laws.specs.Images.{KeepsPromise}
 use Rattle.mq_script.specs.Scripts.{Script}
 use Rattle.mq_tree.specs.Volume.{Path}
-use Rattle.mq_cli.specs.Asked.{Asked, Words, asked_of, audit, blocks, cat, check, dump, format, gen, help, ls, recover, replicate, run, version}
+use Rattle.mq_cli.specs.Asked.{Asked, Words, asked_of, audit, blocks, cat, check, dump, format, gen, help, loose, ls, recover, replicate, run, version}
 use Rattle.mq_cli.specs.Help.{help_text, version_line}
 use Rattle.mq_cli.specs.declared.command.RunFlags.{RunFlags}
-use Rattle.mqfs.specs.Decided.{ChainsDecide, Decides, FileDecides, ImageDecides, IsCovered, IsRunnable, NumbersDecide, RunDecides, StandingDecides, TraceDecides, TreeDecides, VolumeDecides, above_limit, bad_numbers, bad_script, bad_trace, good_numbers, good_trace, has_chains, has_file, has_no_file, has_standing, has_tree, is_no_image, no_chains, no_drive, no_image, no_standing, no_tree, no_volume, no_volume_there, none_stands, too_many, unreadable}
+use Rattle.mqfs.specs.Decided.{ChainsDecide, FileDecides, ImageDecides, IsCovered, IsRunnable, NumbersDecide, RunDecides, StandingDecides, TraceDecides, TreeDecides, VolumeDecides, above_limit, bad_numbers, bad_script, bad_trace, good_numbers, good_trace, has_chains, has_file, has_no_file, has_standing, has_tree, is_no_image, no_chains, no_drive, no_image, no_standing, no_tree, no_volume, no_volume_there, none_stands, too_many, unreadable}
 use Rattle.mqfs.specs.Program.{IsToSay, no_command, no_memory, of_command}
 use Rattle.mqfs.specs.Says.{Says, SaysOnly, asked_workload, numbers, run_options, said}
 use Rattle.mqfs.proofs.ProgramEndings.{said_or}
@@ -131,7 +132,7 @@ module _ (held : Held) (files : FilesState) (told : files.contents ≡ Some held
       done bytes x _ _ tells read (not_recovered e refuses) = no_standing (unreadable bytes x e tells read refuses)
   recovers-covered name limit pick new status text (recovers.Recovers.unsaved bytes mid load not) = inr (unsaved name mid new status text not)
 
-  -- ---- `format`, `gen`, `blocks`, `replicate`, `audit`
+  -- ---- `format`, `gen`, `blocks`, `replicate`, `loose`, `audit`
 
   formats-covered : (n : Numbers) (name : List ℕ) (new : FilesState) (status : ℕ) (text : List ℕ) → Formats n name files new status text → NumbersDecide n status ⊎ IsFailing status
   formats-covered n name new _ _ (formatted g x are empty save) = inl (good_numbers g are)
@@ -158,6 +159,13 @@ module _ (held : Held) (files : FilesState) (told : files.contents ≡ Some held
   replicates-covered file save new status text (replicates.Replicates.not_loaded not) = inr (unloaded file files new status text not)
   replicates-covered file save new status text (replicates.Replicates.not_saved bytes lines name loaded some load is not) = inr (unsaved name loaded new status text not)
   replicates-covered file save new _ _ (replicates.Replicates.wants_memory bytes load) = inr (inr refl)
+
+  looses-covered : (file : List ℕ) (cut : Option ℕ) (save : Option (List ℕ)) (new : FilesState) (status : ℕ) (text : List ℕ) → SaysOfLoose file cut save files new status text → LooseDecides file (Some held) status ⊎ IsFailing status
+  looses-covered file cut save new _ _ (loose_says.SaysOfLoose.printed bytes lines set x loaded load is set_in left saves) = inl (loose_says.LooseDecides.good_text bytes lines (tells file bytes loaded load) is)
+  looses-covered file cut save new _ _ (loose_says.SaysOfLoose.refused bytes line load refuses) = inl (loose_says.LooseDecides.bad_text bytes line (tells file bytes new load) refuses)
+  looses-covered file cut save new status text (loose_says.SaysOfLoose.not_loaded not) = inr (unloaded file files new status text not)
+  looses-covered file cut save new status text (loose_says.SaysOfLoose.not_saved bytes lines name loaded some load is not) = inr (unsaved name loaded new status text not)
+  looses-covered file cut save new _ _ (loose_says.SaysOfLoose.wants_memory bytes load) = inr (inr refl)
 
   audits-covered : (trace : List ℕ) (new : FilesState) (status : ℕ) (text : List ℕ) → SaysOf Audits trace files new status text → TraceDecides trace (Some held) status ⊎ IsFailing status
   audits-covered trace new _ _ (ending.SaysOf.loaded bytes load (accepts t drawn done waiting least greatest is allowed summary)) = inl (good_trace bytes t (tells trace bytes new load) is)
@@ -263,6 +271,7 @@ module _ (held : Held) (files : FilesState) (told : files.contents ≡ Some held
   covered (check image) new status text says = decided (checks-covered image new status text says)
   covered (audit trace) new status text says = decided (audits-covered trace new status text says)
   covered (replicate file seed save) new status text says = decided (replicates-covered file save new status text says)
+  covered (loose file cut pick save) new status text says = decided (looses-covered file cut save new status text says)
   covered (help topic) new status text says = inl (inl (only-said (help_text topic) new status text says))
   covered version new status text says = inl (inl (only-said version_line new status text says))
 

@@ -7,3 +7,4 @@ pub mod Complete
 pub mod Covered
 pub mod ProgramTold
 pub mod Replicated
+pub mod Loosed

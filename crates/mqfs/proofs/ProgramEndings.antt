@@ -12,7 +12,7 @@ use Rattle.mq_cli.specs.declared.refusal.WordsRefusal.{WordsRefusal}
 use Rattle.mq_cli.specs.declared.refusal.WordsRefusal.TheVariants as refusal
 use Rattle.mq_command_io.specs.Ending.{IsNotLoaded, IsNotSaved, load_failed, load_memory, load_too_long, save_failed, save_memory}
 use Rattle.mqfs.specs.Decided.{Decides, RunsThere}
-use Rattle.mqfs.specs.Program.{AreUnknown, IsDone, IsEndedRun, IsMisreadTrace, IsRefusedText, IsSaid, IsStatus, IsToSay, IsTooLong, KeepsNames, TakesFor, no_command, no_memory, of_command, usage_line}
+use Rattle.mqfs.specs.Program.{AreUnknown, IsDone, IsEndedRun, IsMisreadTrace, IsRefusedLoose, IsRefusedText, IsSaid, IsStatus, IsToSay, IsTooLong, KeepsNames, TakesFor, no_command, no_memory, of_command, usage_line}
 use Rattle.mqfs.specs.Says.{Says}
 use Rattle.mqfs.proofs.ProgramTold.{RefusedWords, SaysWords, told_words}
 
@@ -67,12 +67,13 @@ module _ (words : Words) (files new_files : FilesState) (status : ℕ) (text : L
   ]
 
   -- what was refused, with its line
-  bad_said : new.contents ≡ appended old.contents text → RefusedWords words files new_files text → IsRefusedText words files old new ⊎ (IsMisreadTrace words files old new ⊎ IsEndedRun 2 words files new_files old new)
+  bad_said : new.contents ≡ appended old.contents text → RefusedWords words files new_files text → IsRefusedText words files old new ⊎ (IsRefusedLoose words files old new ⊎ (IsMisreadTrace words files old new ⊎ IsEndedRun 2 words files new_files old new))
   bad_said whole (inl t) = inl (t.0, t.1, t.2, t.3, t.4, t.5, t.6, whole ∙ ap (appended old.contents) t.7)
-  bad_said whole (inr (inl t)) = inr (inl (t.0, t.1, t.2, t.3, t.4, t.5, whole ∙ ap (appended old.contents) t.6))
-  bad_said whole (inr (inr t)) = inr (inr (t.0, t.1, t.2, text, t.3, t.4, whole))
+  bad_said whole (inr (inl t)) = inr (inl (t.0, t.1, t.2, t.3, t.4, t.5, t.6, t.7, t.8, whole ∙ ap (appended old.contents) t.9))
+  bad_said whole (inr (inr (inl t))) = inr (inr (inl (t.0, t.1, t.2, t.3, t.4, t.5, whole ∙ ap (appended old.contents) t.6)))
+  bad_said whole (inr (inr (inr t))) = inr (inr (inr (t.0, t.1, t.2, text, t.3, t.4, whole)))
 
-  pub refused_told : result ≡ 2 → IsRefusedText words files old new ⊎ (IsMisreadTrace words files old new ⊎ IsEndedRun 2 words files new_files old new)
+  pub refused_told : result ≡ 2 → IsRefusedText words files old new ⊎ (IsRefusedLoose words files old new ⊎ (IsMisreadTrace words files old new ⊎ IsEndedRun 2 words files new_files old new))
   refused_told two = elim said_or [
     | inl e ↦ bad_said e.1 (tells.bad (sym e.0 ∙ two))
     | inr e ↦ elim e [ inl four ↦ absurd (omega (arith, four, two)) | inr six ↦ absurd (omega (arith, six, two)) ]

@@ -10,16 +10,19 @@ use Rattle.mq_command_gen.specs.Generates.{Generates, SavesUnder, generated}
 use Rattle.mq_command_gen.specs.Generates as generates
 use Rattle.mq_command_images.specs.Recovers.{Recovers, RefusesRecovery, not_recovered, recovered, unsaved}
 use Rattle.mq_command_images.specs.Recovers as recovers
+use Rattle.mq_command_loose.specs.SaysOfLoose.{SaysOfLoose}
+use Rattle.mq_command_loose.specs.SaysOfLoose as loose_says
 use Rattle.mq_command_replicate.specs.Replicates.{Replicates}
 use Rattle.mq_command_replicate.specs.Replicates as replicates
 use Rattle.mq_command_run.specs.RunsScripts.{AreLoaded, RefusesRunning, RefusesScript, RefusesScripts, Runs, are_wanting, ran}
 use Rattle.mq_command_run.specs.RunsScripts as runs
 use Rattle.mq_command_images.specs.declared.formatting.Numbers.{Numbers}
 use Rattle.mq_command_gen.specs.declared.workload.Workload.{Workload}
-use Rattle.mq_command_io.specs.Ending.{IsLoaded, IsNotLoaded, IsNotSaved, IsSaved, SaysOf, TakesOver, TakesWithin, load_failed, load_memory, load_too_long, loaded, not_loaded, save_failed, save_memory, wanting}
+use Rattle.mq_command_io.specs.Ending.{IsLoaded, IsNotLoaded, IsNotSaved, IsSaved, SaysOf, TakesWithin, load_failed, load_memory, load_too_long, loaded, not_loaded, save_failed, save_memory, wanting}
 use Rattle.mq_image.specs.File.{DriveImage, image_bytes}
 use Rattle.mq_image_run.specs.declared.options.RunOptions.{RunOptions}
-use Rattle.mq_outside.specs.Outside.{FilesState, Held, Holds, HoldsOver, OthersSame, Rose, put_name}
+use Rattle.mq_loose_text.specs.Text as loose_text
+use Rattle.mq_outside.specs.Outside.{FilesState, Held, Holds, OthersSame, Rose, put_name}
 use Rattle.mq_script.specs.Scripts.{Script}
 use Rattle.mq_block_text.specs.Refusals.{RefusesText}
 use Rattle.mq_block_text.specs.declared.item.BlockItem.{BlockItem}
@@ -29,7 +32,7 @@ use Rattle.mq_command_blocks.specs.Left.{SavesLeft, SavesTrace}
 use Rattle.mq_command_blocks.specs.SaysOfBlocks.{SaysOfBlocks, printed, refused}
 use Rattle.mq_command_blocks.specs.SaysOfBlocks as blocks_says
 use Rattle.mq_tree.specs.Volume.{Path}
-use Rattle.mq_cli.specs.Asked.{Asked, Words, asked_of, audit, blocks, cat, check, dump, format, gen, help, ls, recover, replicate, run, version}
+use Rattle.mq_cli.specs.Asked.{Asked, Words, asked_of, audit, blocks, cat, check, dump, format, gen, help, loose, ls, recover, replicate, run, version}
 use Rattle.mq_cli.specs.declared.command.BlocksOptions.{BlocksOptions}
 use Rattle.mq_cli.specs.declared.command.RunFlags.{RunFlags}
 use Rattle.mqfs.specs.Program.{AreUnknown, AskText, HoldsTooMuch, IsStatus, IsToSay, KeepsOthers, TakesUpTo, loaded_by, loaded_names, no_command, no_memory, of_command, saved_by, saved_names, usage_line}
@@ -306,6 +309,22 @@ told_replicate file save old new status text (replicates.not_saved bytes lines n
     (told_not_saved (name ∷ []) (file ∷ []) name (the-first name []) old mid new status text (keeps (name ∷ []) old mid load.contents) load.faults not))
 told_replicate file save old new _ _ (replicates.wants_memory bytes load) = weaker (option_to_list save) (file ∷ []) _ _ old new 6 (memory (option_to_list save) (file ∷ []) old new (keeps (option_to_list save) old new load.contents) load.faults)
 
+-- ---- `loose`
+
+-- the file holds bytes that are refused, and this is their line
+abbrev pub BadLoose : (file : List ℕ) → (old : FilesState) → (text : List ℕ) → Type 0
+BadLoose file old text = (bytes : List ℕ) × (line : ℕ) × Holds old.contents file bytes × loose_text.RefusesText bytes line × (text ≡ loose_text.refused_line line)
+
+told_loose : (file : List ℕ) (cut : Option ℕ) (save : Option (List ℕ)) (old new : FilesState) (status : ℕ) (text : List ℕ) → SaysOfLoose file cut save old new status text → Told (option_to_list save) (file ∷ []) Nothing (BadLoose file old text) Nothing old new status
+told_loose file cut save old new _ _ (loose_says.printed bytes lines set x mid load is set_in left saves) = weaker (option_to_list save) (file ∷ []) _ _ old new 0 (told_image_left save file bytes x old mid new load saves)
+told_loose file cut save old new _ _ (loose_says.refused bytes line load refuses) = told_bad (option_to_list save) file bytes _ old new load (bytes, line, load.holds, refuses, refl)
+told_loose file cut save old new status text (loose_says.not_loaded not) = weaker (option_to_list save) (file ∷ []) _ _ old new status (told_not_loaded (option_to_list save) [] file old new status text not)
+told_loose file cut save old new status text (loose_says.not_saved bytes lines name mid asks load is not) =
+    weaker (option_to_list save) (file ∷ []) _ _ old new status
+    (subst (λ (o : Option (List ℕ)). Told (option_to_list o) (file ∷ []) Nothing Nothing Nothing old new status) (sym asks)
+    (told_not_saved (name ∷ []) (file ∷ []) name (the-first name []) old mid new status text (keeps (name ∷ []) old mid load.contents) load.faults not))
+told_loose file cut save old new _ _ (loose_says.wants_memory bytes load) = weaker (option_to_list save) (file ∷ []) _ _ old new 6 (memory (option_to_list save) (file ∷ []) old new (keeps (option_to_list save) old new load.contents) load.faults)
+
 -- ---- `audit`
 
 -- a line of what the file holds is not in its form, and this is its line
@@ -503,6 +522,7 @@ BadOf (dump image) old new text = Nothing
 BadOf (check image) old new text = Nothing
 BadOf (audit trace) old new text = BadTrace trace old text
 BadOf (replicate file seed save) old new text = BadText file old text
+BadOf (loose file cut pick save) old new text = BadLoose file old text
 BadOf (help topic) old new text = Nothing
 BadOf version old new text = Nothing
 
@@ -523,6 +543,7 @@ told (dump image) old new status text says = told_image (SaysOfImage Dumps) (sta
 told (check image) old new status text says = told_image (SaysOfImage Checks) (statuses Checks checks) [] [] image old new status text says
 told (audit trace) old new status text says = told_audit trace old new status text says
 told (replicate file seed save) old new status text says = told_replicate file save old new status text says
+told (loose file cut pick save) old new status text says = told_loose file cut save old new status text says
 told (help topic) old new status text says = told_only _ old new status text says
 told version old new status text says = told_only _ old new status text says
 
@@ -545,9 +566,16 @@ TraceWords words old text =
     (trace bytes : List ℕ) × (line : ℕ)
     × (asked_of words ≡ Some (audit trace)) × Holds old.contents trace bytes × IsMisread bytes line × (text ≡ misread_line line)
 
+-- the words are those of `loose`, and the file holds bytes that are refused
+abbrev pub LooseWords : Words → (old : FilesState) → (text : List ℕ) → Type 0
+LooseWords words old text =
+    (file bytes : List ℕ) × (line : ℕ) × (cut pick : Option ℕ) × (save : Option (List ℕ))
+    × (asked_of words ≡ Some (loose file cut pick save)) × Holds old.contents file bytes
+    × loose_text.RefusesText bytes line × (text ≡ loose_text.refused_line line)
+
 -- what a file holds was refused
 abbrev pub RefusedWords : Words → (old new : FilesState) → (text : List ℕ) → Type 0
-RefusedWords words old new text = BadWords words old text ⊎ (TraceWords words old text ⊎ RunWords 2 words old new text)
+RefusedWords words old new text = BadWords words old text ⊎ (LooseWords words old text ⊎ (TraceWords words old text ⊎ RunWords 2 words old new text))
 
 abbrev pub NoWords : Words → (old new : FilesState) → (text : List ℕ) → Type 0
 NoWords words old new text = AreUnknown words × (text ≡ usage_line) × (new ≡ old)
@@ -558,15 +586,16 @@ SaysWords words old new status text = Told (saved_by (asked_of words)) (loaded_b
 bad_words : (words : Words) (a : Asked) (old new : FilesState) (text : List ℕ) → asked_of words ≡ Some a → BadOf a old new text → RefusedWords words old new text
 bad_words words (blocks file options save trace) old new text is bad = inl (file, bad.0, bad.1, bad.2, inl (options, save, trace, is), bad.3, bad.4, bad.5)
 bad_words words (format image queues area meta zone) old new text is bad = absurd bad
-bad_words words (run image scripts options) old new text is bad = inr (inr (image, scripts, options, is, bad))
+bad_words words (run image scripts options) old new text is bad = inr (inr (inr (image, scripts, options, is, bad)))
 bad_words words (recover image cut pick) old new text is bad = absurd bad
 bad_words words (ls image) old new text is bad = absurd bad
 bad_words words (cat image path) old new text is bad = absurd bad
 bad_words words (gen seed threads groups save) old new text is bad = absurd bad
 bad_words words (dump image) old new text is bad = absurd bad
 bad_words words (check image) old new text is bad = absurd bad
-bad_words words (audit trace) old new text is bad = inr (inl (trace, bad.0, bad.1, is, bad.2, bad.3, bad.4))
+bad_words words (audit trace) old new text is bad = inr (inr (inl (trace, bad.0, bad.1, is, bad.2, bad.3, bad.4)))
 bad_words words (replicate file seed save) old new text is bad = inl (file, bad.0, bad.1, bad.2, inr (seed, save, is), bad.3, bad.4, bad.5)
+bad_words words (loose file cut pick save) old new text is bad = inr (inl (file, bad.0, bad.1, cut, pick, save, is, bad.2, bad.3, bad.4))
 bad_words words (help topic) old new text is bad = absurd bad
 bad_words words version old new text is bad = absurd bad
 
@@ -582,6 +611,7 @@ ended_words words (dump image) old new text is ended = absurd ended
 ended_words words (check image) old new text is ended = absurd ended
 ended_words words (audit trace) old new text is ended = absurd ended
 ended_words words (replicate file seed save) old new text is ended = absurd ended
+ended_words words (loose file cut pick save) old new text is ended = absurd ended
 ended_words words (help topic) old new text is ended = absurd ended
 ended_words words version old new text is ended = absurd ended
 

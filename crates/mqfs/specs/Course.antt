@@ -1,11 +1,11 @@
 -- What a command loads and saves, one name after another, and where that ends.
-use Rattle.std.specs.Prelude.{◌≡◌, ◌⊎◌, ℕ, List, [], ◌∷◌, ◌++◌, Option, Some}
+use Rattle.std.specs.Prelude.{◌≡◌, ◌⊎◌, ℕ, Bool, List, [], ◌∷◌, ◌++◌, Some}
 use Rattle.std.specs.Option.{unwrap_or}
 use Rattle.mq_blocks.specs.declared.geometry.Geometry.{Geometry}
 use Rattle.mq_block_text.specs.declared.item.BlockItem.{BlockItem}
 use Rattle.mq_block_trace.specs.Prefixes.{IsPrefixAt}
 use Rattle.mq_block_trace.specs.Written.{IsTraced}
-use Rattle.mq_cli.specs.Asked.{Asked, Words, asked_of, audit, blocks, cat, check, dump, format, gen, help, ls, recover, replicate, run, version}
+use Rattle.mq_cli.specs.Asked.{Asked, Words, asked_of, blocks, format, gen, loose, recover, replicate, run}
 use Rattle.mq_command_blocks.specs.Blocks.{IsBlockText}
 use Rattle.mq_command_blocks.specs.Picked.{IsRunBy, pick_of}
 use Rattle.mq_command_gen.specs.Generates.{IsPlayOf}
@@ -21,6 +21,10 @@ use Rattle.mq_image_ops.specs.Empty.{IsEmptyDrive}
 use Rattle.mq_image_ops.specs.declared.recovery.RecoveredImage.{RecoveredImage}
 use Rattle.mq_image_run.specs.Runs.{IsRunOf}
 use Rattle.mq_image_run.specs.declared.ran.ImageRun.{ImageRun}
+use Rattle.mq_loose_run.specs.Runs.{IsLeftLoose}
+use Rattle.mq_loose_text.specs.Meaning.{IsSetIn}
+use Rattle.mq_loose_text.specs.Text.{IsLooseText}
+use Rattle.mq_loose_text.specs.declared.line.LooseLine.{LooseLine}
 use Rattle.mq_outside.specs.Outside.{AppendsPrefix, FilesState, Holds, Rose, SinkState}
 use Rattle.mq_run_laws.specs.Images.{KeepsPromise}
 use Rattle.mq_script.specs.Scripts.{Script}
@@ -69,6 +73,10 @@ Gives (gen seed threads groups save) files name bytes =
 Gives (replicate file seed save) files name bytes =
     (text : List ℕ) × (lines : List (List BlockItem)) × (x : DriveImage)
     × Holds files.contents file text × IsBlockText text lines × IsReplicaOf lines x
+    × (save ≡ Some name) × (bytes ≡ image_bytes x)
+Gives (loose file cut pick save) files name bytes =
+    (text : List ℕ) × (lines : List LooseLine) × (set : ℕ → Bool) × (x : DriveImage)
+    × Holds files.contents file text × IsLooseText text lines × IsSetIn cut lines set × IsLeftLoose cut lines set x
     × (save ≡ Some name) × (bytes ≡ image_bytes x)
 Gives _ files name bytes = ⊥
 

@@ -21,10 +21,11 @@ use Rattle.mq_recover.specs.declared.refusal.ImageFault.{ImageFault}
 use Rattle.mq_script.specs.Scripts.{Script}
 use Rattle.mq_audit.specs.Traces.{IsMisread, IsTrace, Trace}
 use Rattle.mq_command_blocks.specs.SaysOfBlocks.{TextDecides}
+use Rattle.mq_command_loose.specs.SaysOfLoose.{LooseDecides}
 use Rattle.mq_tree.specs.Trees.{ReadsAs}
 use Rattle.mq_tree.specs.Volume.{Path, Volume}
 use Rattle.mq_tree.specs.declared.request.Fault.{Fault}
-use Rattle.mq_cli.specs.Asked.{Asked, audit, blocks, cat, check, dump, format, gen, help, ls, recover, replicate, run, version}
+use Rattle.mq_cli.specs.Asked.{Asked, audit, blocks, cat, check, dump, format, gen, help, loose, ls, recover, replicate, run, version}
 use Rattle.mq_cli.specs.declared.command.RunFlags.{RunFlags}
 use Rattle.mqfs.specs.Says.{numbers}
 
@@ -132,6 +133,7 @@ Decides (dump image) held status = ChainsDecide image held status
 Decides (check image) held status = StandingDecides image held status
 Decides (audit trace) held status = TraceDecides trace held status
 Decides (replicate file seed save) held status = TextDecides file held status
+Decides (loose file cut pick save) held status = LooseDecides file held status
 Decides (help topic) held status = status ≡ 0
 Decides version held status = status ≡ 0
 

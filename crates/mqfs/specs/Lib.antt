@@ -5,3 +5,4 @@ pub mod Program
 pub mod Says
 pub mod Ran
 pub mod Replicated
+pub mod Loosed

@@ -5,6 +5,7 @@ use Rattle.mq_command_audit.specs.Audits.{misread_line}
 use Rattle.mq_command_run.specs.RunsScripts.{Runs}
 use Rattle.mq_command_io.specs.Ending.{IsLoaded, TakesOver, memory_line}
 use Rattle.mq_image.specs.File.{DriveImage}
+use Rattle.mq_loose_text.specs.Text as loose_text
 use Rattle.mq_outside.specs.Outside.{FilesState, Held, Holds, HoldsOver, SinkState, appended, load_limit}
 use Rattle.mq_block_text.specs.Refusals.{RefusesText}
 use Rattle.mq_block_text.specs.declared.item.BlockItem.{BlockItem}
@@ -13,7 +14,7 @@ use Rattle.mq_command_blocks.specs.Blocks.{IsBlockText, output_of, refused_line}
 use Rattle.mq_block_trace.specs.Prefixes.{IsPrefixAt}
 use Rattle.mq_command_blocks.specs.Left.{SavesLeft, SavesTrace}
 use Rattle.mq_command_blocks.specs.Picked.{IsRunBy, pick_of}
-use Rattle.mq_cli.specs.Asked.{Asked, Words, asked_of, audit, blocks, cat, check, dump, format, gen, help, ls, recover, replicate, run, version}
+use Rattle.mq_cli.specs.Asked.{Asked, Words, asked_of, audit, blocks, cat, check, dump, format, gen, help, loose, ls, recover, replicate, run, version}
 use Rattle.mq_cli.specs.declared.command.BlocksOptions.{BlocksOptions}
 use Rattle.mq_cli.specs.declared.command.RunFlags.{RunFlags}
 use Rattle.mqfs.specs.Says.{Says, run_options}
@@ -23,7 +24,7 @@ abbrev pub AreUnknown : Words → Type 0
 AreUnknown words = asked_of words ≡ None
 
 abbrev pub usage_line : List ℕ
-usage_line = codes "usage: mqfs blocks|format|run|recover|ls|cat|gen|dump|check|audit|replicate\n"
+usage_line = codes "usage: mqfs blocks|format|run|recover|ls|cat|gen|dump|check|audit|replicate|loose\n"
 
 -- What there is to say to the words, and with which status: the usage line, what there is to say of what
 -- they ask, or that memory ran out to read them.
@@ -74,6 +75,13 @@ IsRefusedText words files old new =
     × AskText words file × Holds files.contents file bytes
     × RefusesText bytes line cause × (new.contents ≡ appended old.contents (refused_line line cause))
 
+-- The words are those of `loose`, and the file holds bytes that are refused. The line of that was said.
+abbrev pub IsRefusedLoose : Words → (files : FilesState) → (old new : SinkState) → Type 0
+IsRefusedLoose words files old new =
+    (file bytes : List ℕ) × (line : ℕ) × (cut pick : Option ℕ) × (save : Option (List ℕ))
+    × (asked_of words ≡ Some (loose file cut pick save)) × Holds files.contents file bytes
+    × loose_text.RefusesText bytes line × (new.contents ≡ appended old.contents (loose_text.refused_line line))
+
 -- The words are those of `audit`, and the file holds bytes of which a line is not in its form. The line of
 -- the first such was said.
 abbrev pub IsMisreadTrace : Words → (files : FilesState) → (old new : SinkState) → Type 0
@@ -104,6 +112,7 @@ loaded_names (dump image) = image ∷ []
 loaded_names (check image) = image ∷ []
 loaded_names (audit trace) = trace ∷ []
 loaded_names (replicate file seed save) = file ∷ []
+loaded_names (loose file cut pick save) = file ∷ []
 loaded_names (help topic) = []
 loaded_names version = []
 
@@ -124,6 +133,7 @@ saved_names (dump image) = []
 saved_names (check image) = []
 saved_names (audit trace) = []
 saved_names (replicate file seed save) = option_to_list save
+saved_names (loose file cut pick save) = option_to_list save
 saved_names (help topic) = []
 saved_names version = []
 

@@ -6,6 +6,7 @@ use Rattle.mq_command_check.specs.Checks.{Checks}
 use Rattle.mq_command_images.specs.Commands.{Dumps, Formats, Lists, SaysOfImage, ShowsFile}
 use Rattle.mq_command_gen.specs.Generates.{Generates}
 use Rattle.mq_command_images.specs.Recovers.{Recovers}
+use Rattle.mq_command_loose.specs.SaysOfLoose.{SaysOfLoose}
 use Rattle.mq_command_replicate.specs.Replicates.{Replicates}
 use Rattle.mq_command_run.specs.RunsScripts.{Runs}
 use Rattle.mq_command_images.specs.declared.formatting.Numbers.{Numbers}
@@ -17,7 +18,7 @@ use Rattle.mq_image_run.specs.declared.options.RunOptions.{RunOptions}
 use Rattle.mq_image_ops.specs.declared.ports.Failing.{Failing}
 use Rattle.mq_outside.specs.Outside.{FilesState}
 use Rattle.mq_command_blocks.specs.SaysOfBlocks.{SaysOfBlocks}
-use Rattle.mq_cli.specs.Asked.{Asked, audit, blocks, cat, check, dump, format, gen, help, ls, recover, replicate, run, version}
+use Rattle.mq_cli.specs.Asked.{Asked, audit, blocks, cat, check, dump, format, gen, help, loose, ls, recover, replicate, run, version}
 use Rattle.mq_cli.specs.Help.{help_text, version_line}
 use Rattle.mq_cli.specs.declared.command.FailingCommand.{FailingCommand}
 use Rattle.mq_cli.specs.declared.command.RunFlags.{RunFlags}
@@ -62,5 +63,6 @@ Says (dump image) old new status text = SaysOf (SaysOfImage Dumps) image old new
 Says (check image) old new status text = SaysOf (SaysOfImage Checks) image old new status text
 Says (audit trace) old new status text = SaysOf Audits trace old new status text
 Says (replicate file seed save) old new status text = Replicates file save old new status text
+Says (loose file cut pick save) old new status text = SaysOfLoose file cut save old new status text
 Says (help topic) old new status text = SaysOnly (help_text topic) old new status text
 Says version old new status text = SaysOnly version_line old new status text

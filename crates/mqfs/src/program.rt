@@ -4,13 +4,14 @@ ghost use Rattle.std.specs.String.{string_bytes};
 ghost use Rattle.mq_command_io.specs.Ending.{EndsWith, IsUnlessFailed};
 ghost use Rattle.mq_outside.specs.Outside.{Held, Rose, appended};
 ghost use Rattle.mq_run_laws.specs.Recovering.{EveryInterleavingIsRecovered};
-ghost use Rattle.mq_cli.specs.Asked.{Asked, HasScript, HasSmallNumbers, asked, asked_of, blocks, gen, replicate, run};
+ghost use Rattle.mq_cli.specs.Asked.{Asked, HasScript, HasSmallNumbers, asked, asked_of, blocks, gen, loose, replicate, run};
 ghost use Rattle.mq_cli.specs.declared.command.BlocksOptions.{BlocksOptions};
 ghost use Rattle.mq_cli.specs.declared.command.RunFlags.{RunFlags};
 ghost use Rattle.mqfs.specs.Course.{Course, IsFault, IsOutOfMemory};
 ghost use Rattle.mqfs.specs.Decided.{Decides, IsCovered, IsRunnable, RunsThere};
+ghost use Rattle.mqfs.specs.Loosed.{IsLoosed};
 ghost use Rattle.mqfs.specs.Played.{IsPlayed};
-ghost use Rattle.mqfs.specs.Program.{AreUnknown, IsDone, IsEndedRun, IsMisreadTrace, IsRefusedText, IsSaid, IsStatus, IsToSay, IsTooLong, KeepsNames, TakesFor, usage_line};
+ghost use Rattle.mqfs.specs.Program.{AreUnknown, IsDone, IsEndedRun, IsMisreadTrace, IsRefusedLoose, IsRefusedText, IsSaid, IsStatus, IsToSay, IsTooLong, KeepsNames, TakesFor, usage_line};
 ghost use Rattle.mqfs.specs.Ran.{IsRan, IsRanWhole};
 ghost use Rattle.mqfs.specs.Replicated.{IsReplicated};
 ghost use Rattle.mqfs.specs.Says.{Says, asked_workload};
@@ -29,6 +30,7 @@ use mq_command_blocks::run_blocks;
 use mq_command_check::check;
 use mq_command_images::{Numbers, cat, dump, format, ls, recover};
 use mq_command_io::{USAGE, say, say_memory};
+use mq_command_loose::run_loose;
 use mq_command_replicate::run_replicate;
 use mq_outside::{Files, Sink};
 use mq_run_laws::every_interleaving_is_recovered;
@@ -38,9 +40,9 @@ use std::thread::Threads;
 
 // The line of the words that are no command.
 const USAGE_LINE: &[u8] =
-    b"usage: mqfs blocks|format|run|recover|ls|cat|gen|dump|check|audit|replicate\n";
+    b"usage: mqfs blocks|format|run|recover|ls|cat|gen|dump|check|audit|replicate|loose\n";
 
-// Runs a command. Draws of `recover` come from 0 where no pick is given.
+// Runs a command. Draws of `recover` and `loose` come from 0 where no pick is given.
 fn run<F: Files, K: Sink, R: Threads + Wait + Sync, G: Gate + Sync>(
     rt: &R,
     alloc: Global,
@@ -105,6 +107,12 @@ fn run<F: Files, K: Sink, R: Threads + Wait + Sync, G: Gate + Sync>(
         Command::Replicate { file, seed, save } => {
             run_replicate(alloc, file, seed.unwrap_or(0), save, files, out)
         }
+        Command::Loose {
+            file,
+            cut,
+            pick,
+            save,
+        } => run_loose(alloc, file, cut, pick.unwrap_or(0), save, files, out),
         Command::Help(topic) => say_help(topic, out),
         Command::Version => say_version(out),
     }
@@ -141,7 +149,7 @@ fn read_and_run<F: Files, K: Sink, R: Threads + Wait + Sync, G: Gate + Sync>(
 
 /// The program: runs the command of the words, which are those after its name, over files and an output.
 /// The sessions of `run` and `gen` play their scripts on threads, and pass the gate on their way. The
-/// status is 0 for done, 1 for words that are no command, 2 for a block text, a script or a trace that is refused or
+/// status is 0 for done, 1 for words that are no command, 2 for a text, a script or a trace that is refused or
 /// for more scripts than queues, 3 for an image, a geometry or a path that is refused, 4 for a fault of a
 /// file or the output or a file that is too long, 5 where the command of the drive was executed that `run`
 /// had to let fail, and 6 for out of memory.
@@ -215,6 +223,12 @@ pub fn mqfs<F: Files, K: Sink, R: Threads + Wait + Sync, G: Gate + Sync>(
         → asked_of (map string_bytes words.now) ≡ Some (replicate file seed save)
         → result ≡ 0
         → IsReplicated file save (F.state files.old) (F.state files.new) (K.state out.old) (K.state out.new) }
+    // `loose`: at the status 0 the lines of the text that the file holds were run until the cut, the image that it left is
+    // saved where a name is given for it, and the output is the settled numbers, the image's set, and what that leaves.
+    ensures loosed { (file : List ℕ) (cut pick : Option ℕ) (save : Option (List ℕ))
+        → asked_of (map string_bytes words.now) ≡ Some (loose file cut pick save)
+        → result ≡ 0
+        → IsLoosed file cut save (F.state files.old) (F.state files.new) (K.state out.old) (K.state out.new) }
     // Of every interleaving of queue events and every power cut between two of them.
     ensures journal { EveryInterleavingIsRecovered }
     // The words are no command.
@@ -223,13 +237,14 @@ pub fn mqfs<F: Files, K: Sink, R: Threads + Wait + Sync, G: Gate + Sync>(
         × ((K.state out.new).contents ≡ appended (K.state out.old).contents usage_line)
         × (F.state files.new ≡ F.state files.old) }
     ensures usage_where { AreUnknown (map string_bytes words.now) → IsUnlessFailed 1 result }
-    // The words are those of `blocks`, `replicate` or `audit`, and the file holds bytes that are refused; or they
+    // The words are those of `blocks`, `replicate`, `loose` or `audit`, and the file holds bytes that are refused; or they
     // are those of `run`, and a script is refused, or there are more than queues.
     ensures refused { result ≡ 2
         → IsRefusedText (map string_bytes words.now) (F.state files.old) (K.state out.old) (K.state out.new)
+        ⊎ (IsRefusedLoose (map string_bytes words.now) (F.state files.old) (K.state out.old) (K.state out.new)
         ⊎ (IsMisreadTrace (map string_bytes words.now) (F.state files.old) (K.state out.old) (K.state out.new)
         ⊎ IsEndedRun 2 (map string_bytes words.now) (F.state files.old) (F.state files.new) (K.state out.old)
-        (K.state out.new)) }
+        (K.state out.new))) }
     // The words are those of `run`, and the command that was to fail was executed.
     ensures failed { result ≡ 5
         → IsEndedRun 5 (map string_bytes words.now) (F.state files.old) (F.state files.new) (K.state out.old)

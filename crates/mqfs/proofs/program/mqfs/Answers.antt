@@ -9,6 +9,7 @@ use Rattle.mqfs.proofs.Played.{played_told}
 use Rattle.mqfs.proofs.Complete.{whole_told}
 use Rattle.mqfs.proofs.Covered.{covered_told}
 use Rattle.mqfs.proofs.Ran.{ran_told}
+use Rattle.mqfs.proofs.Loosed.{loosed_told}
 use Rattle.mqfs.proofs.Replicated.{replicated_told}
 use Rattle.mqfs.proofs.program.mqfs.Goals as goal
 
@@ -68,6 +69,11 @@ returns-clause-played g c = λ seed threads groups save asks zero.
 pub returns-clause-replicated : goal.returns-clause-replicated
 returns-clause-replicated g c = λ file seed save asks zero.
     replicated_told file seed save (g.F.Files.state c.args.files.now) (g.F.Files.state c.read_and_run.new.files) (g.K.Sink.state c.args.out.now) (g.K.Sink.state c.read_and_run.new.out) (map string_bytes c.args.words.now) c.read_and_run.ensures.ends.0 c.read_and_run.ensures.ends.1 c.read_and_run.result
+    asks c.read_and_run.ensures.ends.2 c.read_and_run.ensures.ends.3 zero
+
+pub returns-clause-loosed : goal.returns-clause-loosed
+returns-clause-loosed g c = λ file cut pick save asks zero.
+    loosed_told file cut pick save (g.F.Files.state c.args.files.now) (g.F.Files.state c.read_and_run.new.files) (g.K.Sink.state c.args.out.now) (g.K.Sink.state c.read_and_run.new.out) (map string_bytes c.args.words.now) c.read_and_run.ensures.ends.0 c.read_and_run.ensures.ends.1 c.read_and_run.result
     asks c.read_and_run.ensures.ends.2 c.read_and_run.ensures.ends.3 zero
 
 pub returns-clause-fault_at : goal.returns-clause-fault_at

@@ -46,6 +46,14 @@ returns-in-Audit-clause-ends g c = rw c.in-Audit.is c.audit.ensures.ends
 pub returns-in-Replicate-clause-ends : goal.returns-in-Replicate-clause-ends
 returns-in-Replicate-clause-ends g c = rw c.in-Replicate.is c.run_replicate.ensures.ends
 
+pub run_loose-requires : goal.run_loose-requires
+run_loose-requires g c =
+    let small = subst HasSmallNumbers c.in-Loose.is c.requires.small in
+    small.0
+
+pub returns-in-Loose-clause-ends : goal.returns-in-Loose-clause-ends
+returns-in-Loose-clause-ends g c = rw c.in-Loose.is c.run_loose.ensures.ends
+
 pub returns-in-Help-clause-ends : goal.returns-in-Help-clause-ends
 returns-in-Help-clause-ends g c = rw c.in-Help.is (0, help_text c.in-Help.topic, said refl, c.say_help.ensures)
 

@@ -1,0 +1,5 @@
+pub mod LooseLines
+pub mod LooseTexts
+pub mod ItemLines
+pub mod Forms
+pub mod Rooms
