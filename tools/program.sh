@@ -1,9 +1,15 @@
-# Where the program `mqfs` stands, and whether it has to be built again: for the scripts `mqfs` and `prove`, which
+# Where the programs stand, and whether they have to be built again: for the scripts that run or prove them, which
 # name their folder in `root`.
 
-program=mqfs_bin
-proved_program=$root/crates/$program/out/$program
-checked_program=$root/crates/$program/out/checked/$program
+# The programs, each with the crate that builds it.
+declare -A crate_of=([mqfs]=mqfs_bin [mq_kv_tool]=mq_kv_tool_bin)
+
+# Names the crate of a program, and where its builds stand.
+choose() {
+    program=${crate_of[$1]}
+    proved_program=$root/crates/$program/out/$program
+    checked_program=$root/crates/$program/out/checked/$program
+}
 
 tell() {
     printf '%s: %s\n' "${0##*/}" "$*" >&2

@@ -1,0 +1,16 @@
+pub mod ImageClean
+pub mod ImageCuts
+pub mod ImageEnds
+pub mod ImagePower
+pub mod ImagePromise
+pub mod ImageRecovering
+pub mod ImageRings
+pub mod ImageSeen
+pub mod ImageViews
+pub mod Promise
+pub mod ToldEntries
+pub mod ToldFollows
+pub mod ToldLists
+pub mod ToldMaps
+pub mod ToldPlayed
+pub mod ToldSteps

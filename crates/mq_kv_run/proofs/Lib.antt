@@ -1,0 +1,9 @@
+pub mod Backed
+pub mod Kept
+pub mod Opened
+pub mod Played
+pub mod Powered
+pub mod Left
+pub mod Refusals
+pub mod Seats
+pub mod Stores

@@ -1,0 +1,10 @@
+pub mod Drives
+pub mod Endings
+pub mod Groups
+pub mod Limits
+pub mod Played
+pub mod Promise
+pub mod Recovering
+pub mod Refusals
+pub mod Runs
+pub mod Stores

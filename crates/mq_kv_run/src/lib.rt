@@ -1,0 +1,21 @@
+//! A run of groups of operations on the key-value store of an image: recovery, the groups on one session, the end,
+//! and the image that is left.
+#![tactic(auto)]
+
+mod driving;
+mod ending;
+mod laws;
+mod limits;
+mod options;
+mod playing;
+mod ran;
+mod refusal;
+mod running;
+mod stopping;
+mod storing;
+
+pub use laws::reported_groups_run_on_the_store;
+pub use options::KvOptions;
+pub use ran::KvRun;
+pub use refusal::KvRunRefusal;
+pub use running::run_groups;

@@ -1,0 +1,6 @@
+pub mod Applies
+pub mod Decided
+pub mod Makes
+pub mod Outcome
+pub mod Program
+pub mod Says

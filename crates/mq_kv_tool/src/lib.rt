@@ -1,0 +1,10 @@
+//! The program on key-value stores as a library: the commands `new` and `apply`, over files and an output.
+#![tactic(auto)]
+
+mod applying;
+mod help;
+mod making;
+mod program;
+mod refusals;
+
+pub use program::kv;
