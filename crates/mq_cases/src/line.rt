@@ -15,6 +15,8 @@ pub enum Line {
     Puts(Vec<u64>),
     /// That a file changes.
     Change(Change),
+    /// That calls are of this program from here on.
+    Program(Program),
     /// A call of the program with these words.
     Call { words: Vec<String>, shown: Shown },
     /// What is said of files.
@@ -59,6 +61,15 @@ pub enum Question {
         offset: usize,
         count: usize,
     },
+}
+
+/// A program that is called.
+#[derive(Clone, Copy)]
+pub enum Program {
+    /// `mqfs`.
+    FileSystem,
+    /// `mq_kv_tool`.
+    Store,
 }
 
 /// What is printed of the output of a call.
@@ -211,6 +222,14 @@ fn call(alloc: Global, rest: &str, shown: Shown) -> Result<Line, LineRefusal> {
     })
 }
 
+fn program_of(name: &str) -> Result<Line, LineRefusal> {
+    match name {
+        "mqfs" => Ok(Line::Program(Program::FileSystem)),
+        "mq_kv_tool" => Ok(Line::Program(Program::Store)),
+        _ => Err(LineRefusal::Form),
+    }
+}
+
 fn same(alloc: Global, rest: &str) -> Result<Line, LineRefusal> {
     let (one, other) = cut(rest);
     Ok(Line::Question(Question::Same {
@@ -240,6 +259,7 @@ pub fn read_line(alloc: Global, text: &str) -> Result<Line, LineRefusal> {
         "case" => Ok(Line::Case),
         "fail" => Ok(Line::Fail(numbers(alloc, rest)?)),
         "puts" => Ok(Line::Puts(numbers(alloc, rest)?)),
+        "program" => program_of(rest),
         "file" => make(alloc, rest),
         "zeros" => zeros(alloc, rest),
         "edit" => edit(alloc, rest),

@@ -1,5 +1,5 @@
-//! Follows tables of cases: calls of the program `mqfs` over files and an output in memory, and what each of
-//! them comes to. The tables are the files that the program's words name.
+//! Follows tables of cases: calls of the programs `mqfs` and `mq_kv_tool` over files and an output in memory, and
+//! what each of them comes to. The tables are the files that the program's words name.
 #![tactic(auto)]
 
 mod line;

@@ -1,7 +1,8 @@
 // Following the lines of a table.
-use crate::line::{Change, Line, LineRefusal, Question, Shown, read_line};
+use crate::line::{Change, Line, LineRefusal, Program, Question, Shown, read_line};
 use crate::spelled::sum_of;
 use mq_calls::Open;
+use mq_kv_tool::kv;
 use mq_outside::{Files, MemFiles, MemSink, SaveRefusal};
 use mqfs::mqfs;
 use std::alloc::{AllocError, Global};
@@ -20,6 +21,8 @@ struct Draft {
 #[derive(Drop)]
 pub struct Table {
     alloc: Global,
+    /// The program that is called.
+    program: Program,
     files: MemFiles,
     draft: Option<Draft>,
     /// Whether loads and saves are to fail: then each change is saved at once.
@@ -62,6 +65,7 @@ impl Table {
     pub fn new(alloc: Global) -> Table {
         Table {
             alloc,
+            program: Program::FileSystem,
             files: MemFiles::new(alloc, Vec::new(alloc), Vec::new(alloc)),
             draft: None,
             is_failing: false,
@@ -213,7 +217,10 @@ impl Table {
         shown: Shown,
     ) -> Result<String, LineRefusal> {
         let mut out = MemSink::new(self.alloc, Vec::from_slice(self.alloc, &self.puts)?);
-        let status = mqfs(rt, self.alloc, words, &mut self.files, &mut out, &Open);
+        let status = match self.program {
+            Program::FileSystem => mqfs(rt, self.alloc, words, &mut self.files, &mut out, &Open),
+            Program::Store => kv(rt, self.alloc, words, &mut self.files, &mut out),
+        };
         self.puts.clear();
         let output = String::from_utf8_lossy(self.alloc, out.written())?;
         match shown {
@@ -239,6 +246,7 @@ impl Table {
             Line::Fail(_) if !was_fresh => return Err(LineRefusal::Late),
             Line::Fail(calls) => self.begin(calls),
             Line::Puts(puts) => self.puts = puts,
+            Line::Program(program) => self.program = program,
             Line::Change(change) => self.change(&change)?,
             Line::Call { words, shown } => {
                 self.settle()?;
