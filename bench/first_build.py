@@ -2,7 +2,7 @@
 
     python3 bench/first_build.py [COMMIT] [--beside] [--after]
 
-Each is made in a clone of its own of COMMIT (HEAD) of the repository that this script is in. Side by side, `./prove` proves and
+Each is made in a clone of its own of COMMIT (HEAD) of the repository that this script is in. Side by side, `./prove mqfs` proves and
 builds; crate after crate, `rt lib` is called in each crate of the program, the lowest first, and `rt run` in that of the program, each
 with as many jobs as `rt` chooses. With --beside or --after only one of them is made.
 
@@ -50,7 +50,7 @@ def call(words, folder):
 
 def beside(top):
     """Proves and builds by the script `prove`."""
-    return call(["./prove"], top)
+    return call(["./prove", "mqfs"], top)
 
 
 def after(top):
