@@ -178,8 +178,8 @@ module _ {M P Q R E : Type 0} (μ : Meaning P Q R E) (o : Opening P Q R) (chairs
     pub ended : (views : List (ChairView P Q R E)) (pages : List P) (sides : List Q) (root : R) (count next base : ℕ) → count ≡ length xs → get_elem? ws count ≡ some next → get_elem? ws (suc (count + length o.sides)) ≡ some base
         → length pages ≡ length o.pages → ArePages xs pages → length sides ≡ length o.sides → AreSides (length o.pages) xs sides → IsRoot (length o.pages + length o.sides) xs root
         → v.drawn ≡ drawn_of views → v.read ≡ read_of views → Each (IsInOrder μ) views → v.reading.charged ≡ charged_of views → Each (λ u. u.reading.done ≤ v.reading.done) views
-        → Each (λ u. u.reading.base ≤ v.reading.base) views → DeskEnded μ o views pages sides root next base
-    ended views pages sides root count next base len at base_at all_pages are_pages all_sides are_sides is_root drew read ordered charged done based =
+        → Each (λ u. u.reading.base ≤ v.reading.base) views → Each (λ u. u.seen ≤ v.seen) views → DeskEnded μ o views pages sides root next base
+    ended views pages sides root count next base len at base_at all_pages are_pages all_sides are_sides is_root drew read ordered charged done based seen =
         let is : next ≡ newest h.known = sym (get_at ws count next at) ∙ (ap (λ i. get_or ws i 0) len ∙ h.counter) in
         let first : h.known.opening.base ≡ o.base = ap (λ p. p.base) h.opening in record {
           known = h.known;
@@ -199,5 +199,6 @@ module _ {M P Q R E : Type 0} (μ : Meaning P Q R E) (o : Opening P Q R) (chairs
           marked = h.marked;
           done = each_map _ _ (λ u le m e there low. h.reader.done m e there (omega arith)) views done;
           based = each_map _ _ (λ u le. let word = h.reader.base in omega arith) views based;
+          seen = each_map _ _ (λ u le. let low = h.drawer.seen in omega arith) views seen;
           charges = λ f. ap (tally f) (sym charged) ∙ h.charges f;
         }

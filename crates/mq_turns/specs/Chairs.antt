@@ -50,5 +50,7 @@ module _ {P Q R E : Type 0} (μ : Meaning P Q R E) where
     pub done : Each (λ v. DoneTo μ v.reading.done known) views
     -- no chair knew of a greater base
     pub based : Each (λ v. v.reading.base ≤ known.word) views
+    -- nor had one seen a greater number
+    pub seen : Each (λ v. v.seen ≤ newest known) views
     -- each charge was made once
     pub charges : (f : Charge → Bool) → tally f (charged_of views) ≡ tally f known.charges

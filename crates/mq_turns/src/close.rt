@@ -59,6 +59,8 @@ fn join_all<M: Machine>(
         × Each (λ v. v.reading.done ≤ place.new.me.0.reading.done) (map (λ ch. view ch) chairs.items) }
     ensures based { (place.old.me.0.reading.base ≤ place.new.me.0.reading.base)
         × Each (λ v. v.reading.base ≤ place.new.me.0.reading.base) (map (λ ch. view ch) chairs.items) }
+    ensures seen { (place.old.me.0.seen ≤ place.new.me.0.seen)
+        × Each (λ v. v.seen ≤ place.new.me.0.seen) (map (λ ch. view ch) chairs.items) }
 {
     while let Some(Chair { place: mut other }) = chairs.pop() {
         steps::count(top, &mut other, counter);
@@ -80,6 +82,7 @@ fn gather<M: Machine>(top: &Top<M>, counter: usize, mut chairs: Vec<Chair<M>>) -
     ensures charged { result.me.0.reading.charged ≡ charged_of (map (λ ch. view ch) chairs.items) }
     ensures done { Each (λ v. v.reading.done ≤ result.me.0.reading.done) (map (λ ch. view ch) chairs.items) }
     ensures based { Each (λ v. v.reading.base ≤ result.me.0.reading.base) (map (λ ch. view ch) chairs.items) }
+    ensures seen { Each (λ v. v.seen ≤ result.me.0.seen) (map (λ ch. view ch) chairs.items) }
     ensures order { Each (IsInOrder M.meaning) (map (λ ch. view ch) chairs.items) }
 {
     let Some(Chair { place: mut one }) = chairs.pop() else {

@@ -32,5 +32,6 @@ returns g c =
       charged = c.join_all.ensures.charged ∙ (ap (λ m. m.0.reading.charged ++ charged_of (map (λ ch. ch.place.me.0) c.pop.new.self.items)) now ∙ charged_moves (λ ch. ch.place.me.0) _ _ _ [] c.in-Some.ensures.items);
       done = let same = ap (λ m. m.0.reading.done) now in let le = c.join_all.ensures.done.0 in each_last (λ (ch : _). ch.place.me.0) (λ v. v.reading.done ≤ c.join_all.new.place.me.0.reading.done) _ _ _ c.in-Some.ensures.items (omega arith) c.join_all.ensures.done.1;
       based = let same = ap (λ m. m.0.reading.base) now in let le = c.join_all.ensures.based.0 in each_last (λ (ch : _). ch.place.me.0) (λ v. v.reading.base ≤ c.join_all.new.place.me.0.reading.base) _ _ _ c.in-Some.ensures.items (omega arith) c.join_all.ensures.based.1;
+      seen = let same = ap (λ m. m.0.seen) now in let low = c.count.ensures.below.0 in let le = c.join_all.ensures.seen.0 in each_last (λ (ch : _). ch.place.me.0) (λ v. v.seen ≤ c.join_all.new.place.me.0.seen) _ _ _ c.in-Some.ensures.items (omega arith) c.join_all.ensures.seen.1;
       order = each_last (λ (ch : _). ch.place.me.0) (IsInOrder g.M.Machine.meaning) _ _ _ c.in-Some.ensures.items mine c.join_all.ensures.order;
     }

@@ -41,5 +41,6 @@ loop-other-preserved g c =
       charged = ap (λ m. m.0.reading.charged ++ charged_of (map (λ ch. ch.place.me.0) c.pop.new.self.items)) now ∙ (charged_moves (λ ch. ch.place.me.0) _ _ _ _ c.in-Some.ensures.items ∙ i.charged);
       done = λ n le all. let both = ap (λ m. m.0.reading.done) now in i.done n (omega arith) (each_last (λ (ch : _). ch.place.me.0) (λ v. v.reading.done ≤ n) _ _ _ c.in-Some.ensures.items (omega arith) all);
       based = λ n le all. let both = ap (λ m. m.0.reading.base) now in i.based n (omega arith) (each_last (λ (ch : _). ch.place.me.0) (λ v. v.reading.base ≤ n) _ _ _ c.in-Some.ensures.items (omega arith) all);
+      seen = λ n le all. let both = ap (λ m. m.0.seen) now in let low = c.count.ensures.below.0 in i.seen n (omega arith) (each_last (λ (ch : _). ch.place.me.0) (λ v. v.seen ≤ n) _ _ _ c.in-Some.ensures.items (omega arith) all);
       read = ap (λ m. m.0.read ++ read_of (map (λ ch. ch.place.me.0) c.pop.new.self.items)) now ∙ (read_moves (λ ch. ch.place.me.0) _ _ _ _ c.in-Some.ensures.items ∙ i.read);
     }

@@ -16,6 +16,7 @@ invariant-loop-other g l = record {
   charged : l.place.me.0.reading.charged ++ charged_of (map (λ ch. view ch) l.chairs.items) ≡ l.initial.place.me.0.reading.charged ++ charged_of (map (λ ch. view ch) l.initial.chairs.items);
   done : (n : ℕ) → l.place.me.0.reading.done ≤ n → Each (λ v. v.reading.done ≤ n) (map (λ ch. view ch) l.chairs.items) → (l.initial.place.me.0.reading.done ≤ n) × Each (λ v. v.reading.done ≤ n) (map (λ ch. view ch) l.initial.chairs.items);
   based : (n : ℕ) → l.place.me.0.reading.base ≤ n → Each (λ v. v.reading.base ≤ n) (map (λ ch. view ch) l.chairs.items) → (l.initial.place.me.0.reading.base ≤ n) × Each (λ v. v.reading.base ≤ n) (map (λ ch. view ch) l.initial.chairs.items);
+  seen : (n : ℕ) → l.place.me.0.seen ≤ n → Each (λ v. v.seen ≤ n) (map (λ ch. view ch) l.chairs.items) → (l.initial.place.me.0.seen ≤ n) × Each (λ v. v.seen ≤ n) (map (λ ch. view ch) l.initial.chairs.items);
   read : l.place.me.0.read ++ read_of (map (λ ch. view ch) l.chairs.items) ≡ l.initial.place.me.0.read ++ read_of (map (λ ch. view ch) l.initial.chairs.items);
 }
 

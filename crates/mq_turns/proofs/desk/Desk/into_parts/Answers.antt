@@ -64,4 +64,4 @@ returns-clause-ok g c =
     ended g.M.Machine.meaning (start_of c.args.self) _ _ _ xs h deep
     (map (λ ch. view ch) c.args.chairs.items) c.unload_pages-pages.result.items c.unload_sides-sides.result.items c.unload_root-root.result (c.args.self.pages + c.args.self.sides + 1) c.word-next.result c.word-base.result (omega arith) c.word-next.ensures (ap (λ i. get_elem? (slots_items c.close_with-closed.result.words) i) word ∙ c.word-base.ensures)
     pages c.unload_pages-pages.ensures.pages.1 sides are_sides root
-    c.gather-one.ensures.all.0 c.gather-one.ensures.all.1 c.gather-one.ensures.order c.gather-one.ensures.charged c.gather-one.ensures.done c.gather-one.ensures.based
+    c.gather-one.ensures.all.0 c.gather-one.ensures.all.1 c.gather-one.ensures.order c.gather-one.ensures.charged c.gather-one.ensures.done c.gather-one.ensures.based c.gather-one.ensures.seen
