@@ -6,8 +6,7 @@ pub mod AskingFirstChange
 pub mod Acts
 pub mod OpeningCells
 pub mod ReversedLists
-pub mod OpeningState
-pub mod OpeningFresh
+pub mod OpeningVolume
 pub mod ActsComposing
-pub mod MountingStartReads
+pub mod MountingVolumes
 pub mod Helping

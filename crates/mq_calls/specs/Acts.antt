@@ -79,10 +79,10 @@ module _ {P : Type 0} {G : Ghosts P} (state : P → PortState) (faults : P → L
   abbrev pub WasCutAt : Seat P FileEntry G → (at : ℕ) → Type 0
   WasCutAt v at = sessions.WasCutAt state faults file_group v at
 
-  -- By what was known at one moment since then, the group of the call was to be drawn, and the side of its
-  -- queue refused so.
-  abbrev pub MeetsRefusal : Geometry → Call → Seat P FileEntry G → Cause → Type 0
-  MeetsRefusal g c v why = attempts.MeetsRefusal state faults file_group file_calls g c v why
+  -- By this, which was known at one moment since then, the group of the call was to be drawn, and the side of
+  -- its queue refused so.
+  abbrev pub MeetsRefusal : Geometry → Call → Shared P FileEntry G → Seat P FileEntry G → Cause → Type 0
+  MeetsRefusal g c known v why = attempts.MeetsRefusal state faults file_group file_calls g c known v why
 
   -- A port's refusal before the group drew a number.
   abbrev pub Refuses : Geometry → Call → Cause → Seat P FileEntry G → Seat P FileEntry G → Type 0
@@ -109,9 +109,11 @@ module _ {P : Type 0} {G : Ghosts P} (state : P → PortState) (faults : P → L
   abbrev pub planned_at : Shared P FileEntry G → List Write → List Planned
   planned_at K writes = attempts.planned_at state faults file_group file_calls K writes
 
-  -- The plan of the call's group does not fit the journal area of its queue.
-  abbrev pub LacksArea : Geometry → Call → Seat P FileEntry G → Seat P FileEntry G → Type 0
-  LacksArea g c old new = attempts.LacksArea state faults file_group file_calls g c old new
+  -- By this, which was known at one moment of the call, the plan of its group does not fit the journal area of
+  -- its queue.
+  abbrev pub LacksArea : Geometry → Call → Shared P FileEntry G → Seat P FileEntry G → Seat P FileEntry G
+      → Type 0
+  LacksArea g c known old new = attempts.LacksArea state faults file_group file_calls g c known old new
 
   -- The same, and nothing was drawn, read or reported.
   abbrev pub IsAreaFull : Geometry → Call → Seat P FileEntry G → Seat P FileEntry G → Type 0

@@ -1,7 +1,6 @@
 // The machine of a file system.
 use mq_blocks::{BlockNo, Geometry, OutOfMemory, QueueNo};
 use mq_desk_laws::JournalValues;
-use mq_drive::Port;
 use mq_exec::{Done, View};
 use mq_file_entries::{FileEntry, a_done_group_may_be_drawn};
 use mq_journal::{Groups, JournalMachine};
@@ -9,7 +8,6 @@ use mq_pages::{Held, Write};
 use mq_revoke::Placement;
 use mq_sessions::{Asked, Executor, Outcome, Reads};
 use mq_tree::{Reply, Request};
-use mq_turns::Machine;
 use std::alloc::Global;
 
 /// The groups of file requests.
@@ -120,17 +118,3 @@ impl Executor for FileGroups {
 /// The machine of a file system over ports of this kind: pages are cells of home blocks, sides those of
 /// queues, and entries groups of file requests.
 pub type FileMachine<P> = JournalMachine<P, FileGroups>;
-
-/// A machine over a drive, whose shape follows from the values that a desk is opened with.
-pub trait Shaped: Machine {
-    ghost use Rattle.mq_blocks.specs.declared.geometry.Geometry.{Geometry};
-    ghost use Rattle.mq_turns.specs.declared.rule.Opening.{Opening};
-
-    ghost shape: { Opening Self.Page Self.Side Self.Root → Geometry };
-}
-
-impl<P: Port + Drop> Shaped for JournalMachine<P, FileGroups> {
-    ghost use Rattle.mq_calls.specs.Runs.{geometry_at};
-
-    ghost shape = { geometry_at P.state P.faults };
-}

@@ -3,10 +3,10 @@ ghost use Rattle.std.specs.Prelude.{◌≡◌, ◌≤◌, length};
 ghost use Rattle.mq_blocks.specs.Geometry.{homes_of, queues_of};
 ghost use Rattle.mq_turns.specs.AtDesk.{chairs_of, start_of};
 
-use crate::machine::{FileMachine, Shaped};
+use crate::machine::FileMachine;
 use mq_blocks::Geometry;
 use mq_drive::Port;
-use mq_sessions::User;
+use mq_sessions::{Shaped, User};
 use mq_turns::Desk;
 
 /// A file system over the ports of a drive. Threads share it by `&`, each with a session of its own.

@@ -6,6 +6,7 @@ use Rattle.mq_checkpoint.specs.Steps.{IsKnownFrom}
 use Rattle.mq_drive.specs.Steps.{PortFault}
 use Rattle.mq_drive.specs.declared.port.Port.{Ghosts}
 use Rattle.mq_journal.specs.Draining.{report_of}
+use Rattle.mq_journal.specs.Machine.{journal}
 use Rattle.mq_journal.specs.Numbers.{Seat, Shared, reported}
 use Rattle.mq_journal.specs.Sweeping.{HasSwept, WasRefused}
 use Rattle.mq_pages.specs.declared.page.PageCell.{PageCell}
@@ -19,12 +20,14 @@ use Rattle.mq_sessions.specs.declared.committing.Obstacle.TheVariants as obstacl
 use Rattle.mq_sessions.specs.declared.committing.Obstacle.{Obstacle}
 use Rattle.mq_turns.specs.Chairs.{holding}
 use Rattle.mq_turns.specs.Lists.{Each, times}
-use Rattle.mq_turns.specs.Meaning.{HasNumberAt}
+use Rattle.mq_turns.specs.Desk.{Sees, after_look}
+use Rattle.mq_turns.specs.Meaning.{HasNumberAt, newest}
 use Rattle.mq_turns.specs.declared.rule.Charge.{Charge}
 use Rattle.mq_turns.specs.declared.rule.MarkAnswer.TheVariants.{Base, Front}
 use Rattle.mq_turns.specs.declared.rule.Reading.{Reading}
 use Rattle.mq_turns.specs.declared.rule.Report.TheVariants.{Off, Sent}
 use Rattle.mq_turns.specs.declared.rule.Report.{Report}
+use Rattle.std.specs.Prelude.{None}
 use Rattle.std.proofs.Common.{◌≡◌, ℕ, List, ap, arith, ◌<◌, ◌≤◌, ◌∷◌, length, sym, subst, ◌∙◌}
 use Rattle.mq_desk_laws.specs.Groups.{GroupView}
 use Rattle.mq_sessions.specs.Acts.{GoesOn, Rests, WasCutAt}
@@ -87,6 +90,25 @@ module _ {P E : Type 0} {G : Ghosts P} where
     read = only.read ∙ words.read ∙ holds.read;
   }
 
+  -- a look before it
+  only-looked : (K : Shared P E G) (v looked new : Seat P E G) (reports : List Charge) → v.seen ≤ newest K → looked ≡ after_look None K v → OnlyReports reports looked new → OnlyReports reports v new × (newest K ≤ new.seen)
+  only-looked K v looked new reports low is only =
+      let at : looked.seen ≡ newest K = ap (λ (x : Seat P E G). x.seen) is in
+      let seen = only.seen in (
+        record {
+          parts = only.parts ∙ ap (λ (x : Seat P E G). x.parts) is;
+          opening = only.opening ∙ ap (λ (x : Seat P E G). x.opening) is;
+          session = only.session ∙ ap (λ (x : Seat P E G). x.session) is;
+          drawn = only.drawn ∙ ap (λ (x : Seat P E G). x.drawn) is;
+          read = only.read ∙ ap (λ (x : Seat P E G). x.read) is;
+          seen = omega arith;
+          done = (let e : looked.reading.done ≡ v.reading.done = ap (λ (x : Seat P E G). x.reading.done) is in let d = only.done in omega arith);
+          answers = only.answers ∙ ap (λ (x : Seat P E G). x.reading.answers) is;
+          charged = only.charged;
+        },
+        omega arith,
+      )
+
   charges-of : (old taken v : Seat P E G) → OnlyHolds old taken → ReadsWords taken v → v.reading.charged ≡ old.reading.charged
   charges-of old taken v holds words = words.charged ∙ ap (λ (x : Reads P E G). x.charged) holds.reading
 
@@ -100,8 +122,8 @@ module _ {P E : Type 0} {G : Ghosts P} (state : P → PortState) (faults : P →
   }
 
 module _ {P E Req Rep D : Type 0} {G : Ghosts P} (state : P → PortState) (faults : P → List PortFault) (group : GroupView E) (calls : CallView E Req Rep D) where
-  pub meets-before : (g : Geometry) (c : Call Req) (why : Cause) (old v : Seat P E G) → v.opening ≡ old.opening → old.seen ≤ v.seen → v.drawn ≡ old.drawn → MeetsRefusal state faults group calls g c v why → MeetsRefusal state faults group calls g c old why
-  meets-before g c why old v opening seen drawn m = record { known = m.known; from = known-before state faults group old v m.known opening seen drawn m.from; done = m.done; drawable = m.drawable; caused = m.caused }
+  pub meets-before : (g : Geometry) (c : Call Req) (K : Shared P E G) (why : Cause) (old v : Seat P E G) → v.opening ≡ old.opening → old.seen ≤ v.seen → v.drawn ≡ old.drawn → MeetsRefusal state faults group calls g c K v why → MeetsRefusal state faults group calls g c K old why
+  meets-before g c K why old v opening seen drawn m = record { from = known-before state faults group old v K opening seen drawn m.from; done = m.done; drawable = m.drawable; caused = m.caused }
 
   -- the missing room shows on the side
   pub obstacle-shown : (g : Geometry) (c : Call Req) (old : Seat P E G) (s : QueueSide P E G) (v : Seat P E G) (l : Obstacle) → IsObstacle state faults group calls g c old s v l → ShowsObstacle state faults group c.session s v l
@@ -110,10 +132,9 @@ module _ {P E Req Rep D : Type 0} {G : Ghosts P} (state : P → PortState) (faul
   obstacle-shown g c old s v (obstacle.Drive cause) lacks = lacks.0
 
   -- the plan had too little room, of a session that then took a turn and now reports nothing
-  area-lacked : (g : Geometry) (c : Call Req) (old taken v new : Seat P E G) → OnlyHolds old taken → new.reading.answers ≡ v.reading.answers → LacksArea state faults group calls g c taken v → LacksArea state faults group calls g c old new
-  area-lacked g c old taken v new holds answers k = record {
-    known = k.known;
-    from = known-before state faults group old taken k.known holds.opening (let a = holds.seen in omega arith) holds.drawn k.from;
+  area-lacked : (g : Geometry) (c : Call Req) (K : Shared P E G) (old taken v new : Seat P E G) → OnlyHolds old taken → new.reading.answers ≡ v.reading.answers → LacksArea state faults group calls g c K taken v → LacksArea state faults group calls g c K old new
+  area-lacked g c K old taken v new holds answers k = record {
+    from = known-before state faults group old taken K holds.opening (let a = holds.seen in omega arith) holds.drawn k.from;
     reads = k.reads;
     answers = answers ∙ k.answers ∙ ap (λ (x : Reads P E G). Base k.reads.base ∷ Front k.reads.front ∷ x.answers) holds.reading;
     plan = k.plan;
@@ -127,18 +148,29 @@ module _ {P E Req Rep D : Type 0} {G : Ghosts P} (state : P → PortState) (faul
     above = k.above;
   }
 
-  pub missed-for : (g : Geometry) (c : Call Req) (s : QueueSide P E G) (old taken v new : Seat P E G) (l : Obstacle) → OnlyHolds old taken → ReadsWords taken v → IsObstacle state faults group calls g c taken s v l → OnlyReports (reports_for c.session l v.reading.charged) v new → IsMissed state faults group calls g c old new (miss_for l)
-  missed-for g c s old taken v new obstacle.Memory holds words lacks only = record { rests = rests-of old taken v new v.reading.charged holds words only; charged = only.charged ∙ charges-of old taken v holds words }
-  missed-for g c s old taken v new obstacle.Area holds words lacks only = record {
+  -- what was known when the session looked, it has seen
+  missed-for-it : (g : Geometry) (c : Call Req) (s : QueueSide P E G) (K : Shared P E G) (old taken v new : Seat P E G) (l : Obstacle) → OnlyHolds old taken → ReadsWords taken v → IsObstacle state faults group calls g c taken s v l → Sees (journal state faults group) v K → newest K ≤ new.seen → OnlyReports (reports_for c.session l v.reading.charged) v new → IsMissed state faults group calls g c old new (miss_for l)
+  missed-for-it g c s K old taken v new obstacle.Memory holds words lacks sees seen only = record { rests = rests-of old taken v new v.reading.charged holds words only; charged = only.charged ∙ charges-of old taken v holds words }
+  missed-for-it g c s K old taken v new obstacle.Area holds words lacks sees seen only = record {
     keeps = record { rests = rests-of old taken v new v.reading.charged holds words only; charged = only.charged ∙ charges-of old taken v holds words };
-    lacks = area-lacked g c old taken v new holds only.answers lacks;
+    known = K;
+    seen = seen;
+    lacks = area-lacked g c K old taken v new holds only.answers (lacks K sees);
   }
-  missed-for g c s old taken v new (obstacle.Drive cause) holds words lacks only =
+  missed-for-it g c s K old taken v new (obstacle.Drive cause) holds words lacks sees seen only =
       record {
         rests = rests-of old taken v new (reported c.session (report_of cause) ∷ v.reading.charged) holds words only;
         charged = only.charged ∙ ap (λ l. reported c.session (report_of cause) ∷ l) (charges-of old taken v holds words);
-        meets = meets-before g c cause old taken holds.opening (let a = holds.seen in omega arith) holds.drawn lacks.1;
+        known = K;
+        seen = seen;
+        meets = meets-before g c K cause old taken holds.opening (let a = holds.seen in omega arith) holds.drawn (lacks.1 K sees);
       }
+
+  pub missed-for : (g : Geometry) (c : Call Req) (s : QueueSide P E G) (K : Shared P E G) (old taken v looked new : Seat P E G) (l : Obstacle) → OnlyHolds old taken → ReadsWords taken v → IsObstacle state faults group calls g c taken s v l → Sees (journal state faults group) v K → looked ≡ after_look None K v → OnlyReports (reports_for c.session l looked.reading.charged) looked new → IsMissed state faults group calls g c old new (miss_for l)
+  missed-for g c s K old taken v looked new l holds words lacks sees is only =
+      let w = only-looked K v looked new (reports_for c.session l looked.reading.charged) sees.seen is only in
+      let same : looked.reading.charged ≡ v.reading.charged = ap (λ (x : Seat P E G). x.reading.charged) is in
+      missed-for-it g c s K old taken v new l holds words lacks sees w.1 (subst (λ (cs : List Charge). OnlyReports (reports_for c.session l cs) v new) same w.0)
 
   -- a group whose send was cut
   pub cut-of : (g : Geometry) (c : Call Req) (done : D) (e : E) (at : ℕ) (old taken v new : Seat P E G) → OnlyHolds old taken → ReadsWords taken v → v.reading.answers ≡ Base (calls.reads e).base ∷ Front (calls.reads e).front ∷ taken.reading.answers → Tells group calls c done e → length (calls.writes done) ≤ write_limit g → HasDrawn e c.session at Off v new → WasCutAt state faults group v at → IsMissed state faults group calls g c old new (miss.Cut at)
@@ -175,6 +207,12 @@ module _ {P E : Type 0} {G : Ghosts P} where
 
   pub goes-words : (v w : Seat P E G) → ReadsWords v w → GoesOn v w
   goes-words v w words = record { seen = words.seen; done = words.done }
+
+  pub goes-looked : (K : Shared P E G) (v w : Seat P E G) → w ≡ after_look None K v → v.seen ≤ newest K → GoesOn v w
+  goes-looked K v w is low = record {
+    seen = (let e : w.seen ≡ newest K = ap (λ (x : Seat P E G). x.seen) is in omega arith);
+    done = (let e : w.reading.done ≡ v.reading.done = ap (λ (x : Seat P E G). x.reading.done) is in omega arith);
+  }
 
   pub goes-reports : (reports : List Charge) (v w : Seat P E G) → OnlyReports reports v w → GoesOn v w
   goes-reports reports v w only = record { seen = only.seen; done = only.done }

@@ -151,9 +151,10 @@ module _ {P E Req Rep D : Type 0} {G : Ghosts P} (state : P → PortState) (faul
   full-same : (g : Geometry) (c : Call Req) (v m w : Seat P E G) → IsSameSession v m → IsAreaFull state faults group calls g c m w → IsAreaFull state faults group calls g c v w
   full-same g c v m w same k = record {
     keeps = keeps-same v m w same k.keeps;
+    known = k.known;
+    seen = k.seen;
     lacks = record {
-      known = k.lacks.known;
-      from = known-before state faults group v m k.lacks.known (ap (λ (x : Seat P E G). x.opening) same.is) same.seen (ap (λ (x : Seat P E G). x.drawn) same.is) k.lacks.from;
+      from = known-before state faults group v m k.known (ap (λ (x : Seat P E G). x.opening) same.is) same.seen (ap (λ (x : Seat P E G). x.drawn) same.is) k.lacks.from;
       reads = k.lacks.reads;
       answers = k.lacks.answers ∙ ap (λ (x : Seat P E G). Base k.lacks.reads.base ∷ Front k.lacks.reads.front ∷ x.reading.answers) same.is;
       plan = k.lacks.plan;
@@ -175,7 +176,9 @@ module _ {P E Req Rep D : Type 0} {G : Ghosts P} (state : P → PortState) (faul
   missed-same g c v m w (miss.Refused x) same k = record {
     rests = rests-same v m w same k.rests;
     charged = k.charged ∙ ap (λ (z : Seat P E G). reported c.session (report_of x) ∷ z.reading.charged) same.is;
-    meets = meets-before state faults group calls g c x v m (ap (λ (z : Seat P E G). z.opening) same.is) same.seen (ap (λ (z : Seat P E G). z.drawn) same.is) k.meets;
+    known = k.known;
+    seen = k.seen;
+    meets = meets-before state faults group calls g c k.known x v m (ap (λ (z : Seat P E G). z.opening) same.is) same.seen (ap (λ (z : Seat P E G). z.drawn) same.is) k.meets;
   }
   missed-same g c v m w (miss.Cut at) same k = record {
     replies = k.replies;

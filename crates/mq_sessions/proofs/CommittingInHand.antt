@@ -1,5 +1,6 @@
 -- A session that holds the pages of a group and the side of its queue.
 use Rattle.std.proofs.Common.{◌≡◌, ℕ, ◌+◌, ◌<◌, ◌≤◌, List, ◌∷◌, length, sym, ap, subst, ◌∙◌, arith}
+use Rattle.std.specs.Prelude.{None}
 use Rattle.mq_desk_laws.specs.Groups.{GroupView}
 use Rattle.mq_blocks.specs.Drive.{PortState}
 use Rattle.mq_drive.specs.Steps.{PortFault}
@@ -13,7 +14,7 @@ use Rattle.mq_pages.specs.declared.page.PageCell.{PageCell}
 use Rattle.mq_queue_side.specs.declared.root.Root.{Root}
 use Rattle.mq_queue_side.specs.declared.side.QueueSide.{QueueSide}
 use Rattle.mq_turns.specs.Chairs.{holding}
-use Rattle.mq_turns.specs.Desk.{Sees, slot_of}
+use Rattle.mq_turns.specs.Desk.{Sees, after_look, slot_of}
 use Rattle.mq_turns.specs.Lists.{tick, times}
 use Rattle.mq_turns.specs.Meaning.{Meaning}
 use Rattle.mq_turns.specs.Swept.{AfterFront}
@@ -22,9 +23,12 @@ use Rattle.mq_turns.specs.declared.rule.MarkAnswer.TheVariants.{Base, Front}
 use Rattle.mq_turns.specs.declared.rule.ChairView.{ChairView}
 use Rattle.mq_turns.specs.declared.rule.Known.{Known}
 use Rattle.mq_turns.specs.declared.turn.Turn.TheVariants.{Side}
-use Rattle.mq_sessions.specs.Committing.{HasRead, HoldsCommit, ReadsWords}
+use Rattle.mq_sessions.specs.Committing.{HasRead, HoldsCommit, ReadsWords, ShowsObstacle}
 use Rattle.mq_sessions.specs.Pages.{HoldsOnlyPages, HoldsPages, IsSeen}
 use Rattle.mq_journal.specs.Machine.{journal}
+use Rattle.mq_sessions.specs.declared.committing.Obstacle.{Obstacle}
+use Rattle.mq_sessions.specs.declared.committing.Obstacle.TheVariants as obstacle
+use Rattle.mq_turns.proofs.DeskSeen.{sees_look}
 use Rattle.mq_sessions.proofs.PagesHolding.{pages-beside-all, sees-taken}
 use Rattle.mq_sessions.proofs.PagesBeside.{pages-same, side-apart}
 
@@ -50,6 +54,11 @@ module _ {Q R E : Type 0} (μ : Meaning PageCell Q R E) where
     };
     own = s.own;
   }
+
+  -- ---- a look
+
+  pub sees-looked : (K : Known PageCell Q R E) (v : ChairView PageCell Q R E) → Sees μ v K → Sees μ (after_look None K v) K
+  sees-looked K v s = record { opening = s.opening; ok = s.ok; few = s.few; held = s.held; seen = omega arith; drew = s.drew; marked = s.marked; reader = s.reader; own = s.own }
 
 module _ {P E : Type 0} {G : Ghosts P} (state : P → PortState) (faults : P → List PortFault) (group : GroupView E) where
   abbrev μ : Meaning PageCell (QueueSide P E G) (Root P G) E
@@ -159,3 +168,13 @@ module _ {P E : Type 0} {G : Ghosts P} (state : P → PortState) (faults : P →
 
   pub commit-prepared : (o : Start P E G) (q : ℕ) (cells : Cells) (s u : QueueSide P E G) (v : Seat P E G) → HaveSameParts s u → HoldsCommit state faults group o q cells s v → HoldsCommit state faults group o q cells u v
   commit-prepared o q cells s u v same h = commit-side o q cells s u v (prepared_stays state faults group s o q u v same h.side) h
+
+  pub commit-looked : (o : Start P E G) (q : ℕ) (cells : Cells) (s : QueueSide P E G) (v w : Seat P E G) (K : Shared P E G) → w ≡ after_look None K v → Sees μ v K → HoldsCommit state faults group o q cells s v → HoldsCommit state faults group o q cells s w
+  commit-looked o q cells s v w K is sees h =
+      commit-read o q cells s v w (ap (λ (x : Seat P E G). x.held) is) (K, subst (λ (x : Seat P E G). Sees μ x K) (sym is) (sees-looked μ K v sees)) h
+
+  -- what a side shows of its port, it shows after a look
+  pub obstacle-looked : (q : ℕ) (s : QueueSide P E G) (v w : Seat P E G) (K : Shared P E G) (l : Obstacle) → w ≡ after_look None K v → Sees μ v K → ShowsObstacle state faults group q s v l → ShowsObstacle state faults group q s w l
+  obstacle-looked q s v w K obstacle.Memory is sees shows = tt
+  obstacle-looked q s v w K obstacle.Area is sees shows = tt
+  obstacle-looked q s v w K (obstacle.Drive cause) is sees shows = λ L later. shows L (sees_look μ K L v sees (subst (λ (x : Seat P E G). Sees μ x L) is later))

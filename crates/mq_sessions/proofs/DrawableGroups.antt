@@ -280,38 +280,33 @@ module _ {P E Req Rep D : Type 0} {G : Ghosts P} (state : P → PortState) (faul
 
   -- ---- a group that is not drawn
 
-  -- what the session knew when it held the pages was known before it read words
-  known-held : (o : Start P E G) (q : ℕ) (cells : Cells) (old v : Seat P E G) (w : QueueSide P E G) → v.opening ≡ old.opening → old.seen ≤ v.seen → v.drawn ≡ old.drawn → (holds : HoldsCommit state faults group o q cells w v) → IsKnownFrom state faults group old holds.seen.0
-  known-held o q cells old v w opening seen drawn holds =
-      let sees = holds.seen.1 in
-      known-before state faults group old v holds.seen.0 opening seen drawn (record { opening = sees.opening; ok = sees.ok; seen = sees.seen; drew = sees.drew })
+  -- what may be known while the session holds the pages was known before it read words
+  known-held : (old v : Seat P E G) (K : Shared P E G) → v.opening ≡ old.opening → old.seen ≤ v.seen → v.drawn ≡ old.drawn → Sees (journal state faults group) v K → IsKnownFrom state faults group old K
+  known-held old v K opening seen drawn sees =
+      known-before state faults group old v K opening seen drawn (record { opening = sees.opening; ok = sees.ok; seen = sees.seen; drew = sees.drew })
 
   -- a group that is done on the pages in hand, changes something and is not too large meets what the side
   -- refuses
-  pub meets-refusal : (o : Start P E G) (g : Geometry) (c : Call Req) (done : D) (cells : Cells) (old v : Seat P E G) (w : QueueSide P E G) (why : Cause) → v.opening ≡ Some o → shape_of (side_values state faults) group o ≡ g → v.opening ≡ old.opening → old.seen ≤ v.seen → v.drawn ≡ old.drawn → HoldsCommit state faults group o c.session cells w v → calls.on_cells g c.session cells c.requests done → length (calls.writes done) ≤ write_limit g → Changes (calls.writes done) (calls.frees done) → ((K : Shared P E G) → Sees (journal state faults group) v K → IsCaused state faults group K c.session why) → MeetsRefusal state faults group calls g c old why
-  meets-refusal o g c done cells old v w why opening shape same seen drawn holds on few change caused = record {
-    known = holds.seen.0;
-    from = known-held o c.session cells old v w same seen drawn holds;
+  pub meets-refusal : (o : Start P E G) (g : Geometry) (c : Call Req) (done : D) (cells : Cells) (old v : Seat P E G) (w : QueueSide P E G) (why : Cause) → v.opening ≡ Some o → shape_of (side_values state faults) group o ≡ g → v.opening ≡ old.opening → old.seen ≤ v.seen → v.drawn ≡ old.drawn → HoldsCommit state faults group o c.session cells w v → calls.on_cells g c.session cells c.requests done → length (calls.writes done) ≤ write_limit g → Changes (calls.writes done) (calls.frees done) → ((K : Shared P E G) → Sees (journal state faults group) v K → IsCaused state faults group K c.session why) → (K : Shared P E G) → Sees (journal state faults group) v K → MeetsRefusal state faults group calls g c K old why
+  meets-refusal o g c done cells old v w why opening shape same seen drawn holds on few change caused K sees = record {
+    from = known-held old v K same seen drawn sees;
     done = done;
     drawable = record {
-      does = does-now state faults group calls maps rises o g c.session cells w v c.requests done opening shape holds on holds.seen.0 holds.seen.1;
+      does = does-now state faults group calls maps rises o g c.session cells w v c.requests done opening shape holds on K sees;
       changes = change;
       few = few;
     };
-    caused = caused holds.seen.0 holds.seen.1;
+    caused = caused K sees;
   }
 
-  lacks-area : ((e : E) → (group.tx e).queue ≡ group.session e) → (o : Start P E G) (g : Geometry) (c : Call Req) (done : D) (plan : Placed) (reads : Reads) (cells : Cells) (old v : Seat P E G) (w : QueueSide P E G) → v.opening ≡ Some o → v.session ≡ c.session → shape_of (side_values state faults) group o ≡ g → w.pmr.geometry ≡ g → length plan.logged + length plan.direct ≤ write_limit g → HoldsCommit state faults group o c.session cells w v → calls.on_cells g c.session cells c.requests done → length (calls.writes done) ≤ write_limit g → Changes (calls.writes done) (calls.frees done) → HasRead reads old v → IsPlacedOn g c.session reads cells (calls.writes done) plan → FitIs (area_of w.pmr.geometry) reads.base (rows_of w.stored.items) (state w.pmr.port) plan Area → LacksArea state faults group calls g c old v
-  lacks-area queues o g c done plan reads cells old v w opening session shape drive most holds on few change read placement lacks =
-      let K = holds.seen.0 in
-      let sees = holds.seen.1 in
+  lacks-area : ((e : E) → (group.tx e).queue ≡ group.session e) → (o : Start P E G) (g : Geometry) (c : Call Req) (done : D) (plan : Placed) (reads : Reads) (cells : Cells) (old v : Seat P E G) (w : QueueSide P E G) → v.opening ≡ Some o → v.session ≡ c.session → shape_of (side_values state faults) group o ≡ g → w.pmr.geometry ≡ g → length plan.logged + length plan.direct ≤ write_limit g → HoldsCommit state faults group o c.session cells w v → calls.on_cells g c.session cells c.requests done → length (calls.writes done) ≤ write_limit g → Changes (calls.writes done) (calls.frees done) → HasRead reads old v → IsPlacedOn g c.session reads cells (calls.writes done) plan → FitIs (area_of w.pmr.geometry) reads.base (rows_of w.stored.items) (state w.pmr.port) plan Area → (K : Shared P E G) → Sees (journal state faults group) v K → LacksArea state faults group calls g c K old v
+  lacks-area queues o g c done plan reads cells old v w opening session shape drive most holds on few change read placement lacks K sees =
       let front_read = read.front in
       let base_read = read.base in
       let fit : FitIs (area_of g) reads.base (rows_of w.stored.items) (state w.pmr.port) plan Area = subst (λ (x : Geometry). FitIs (area_of x) reads.base (rows_of w.stored.items) (state w.pmr.port) plan Area) drive lacks in
       let x = drew-above state faults group queues o g c.session reads.base plan w v K opening session holds.side sees most fit in
       record {
-        known = K;
-        from = known-held o c.session cells old v w read.words.opening read.words.seen read.words.drawn holds;
+        from = known-held old v K read.words.opening read.words.seen read.words.drawn sees;
         reads = reads;
         answers = read.answers;
         plan = plan;

@@ -27,3 +27,8 @@ pub mod SessionsCalled
 pub mod AttemptsComposing
 pub mod AttemptsAgain
 pub mod DrawableGroups
+pub mod OpeningCells
+pub mod OpeningState
+pub mod OpeningFresh
+pub mod OpeningSessions
+pub mod OpeningStartReads

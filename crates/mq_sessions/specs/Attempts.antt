@@ -100,21 +100,23 @@ module _ {P E Req Rep D : Type 0} {G : Ghosts P} (state : P → PortState) (faul
     pub changes : Changes (calls.writes done) (calls.frees done)
     pub few : length (calls.writes done) ≤ write_limit g
 
-  -- By what was known at one moment since then, the group of the call was to be drawn, and the side of its
-  -- queue refused so.
-  pub record MeetsRefusal (g : Geometry) (c : Call Req) (v : Seat P E G) (why : Cause) : Type 0 where
-    pub known : Shared P E G
+  -- By this, which was known at one moment since then, the group of the call was to be drawn, and the side of
+  -- its queue refused so.
+  pub record MeetsRefusal (g : Geometry) (c : Call Req) (known : Shared P E G) (v : Seat P E G) (why : Cause)
+      : Type 0 where
     pub from : IsKnownFrom state faults group v known
     pub done : D
     pub drawable : IsDrawable g c known done
     pub caused : IsCaused state faults group known c.session why
 
   -- A port's refusal before the group, which was to be drawn, drew a number. It is charged to the port of
-  -- the queue, and nothing else is.
+  -- the queue, and nothing else is. The session has seen every number that was known then.
   pub record Refuses (g : Geometry) (c : Call Req) (why : Cause) (old new : Seat P E G) : Type 0 where
     pub rests : Rests old new
     pub charged : new.reading.charged ≡ reported c.session (report_of why) ∷ old.reading.charged
-    pub meets : MeetsRefusal g c old why
+    pub known : Shared P E G
+    pub seen : newest known ≤ new.seen
+    pub meets : MeetsRefusal g c known old why
 
   -- Its send was cut: the group is drawn, and its transaction may or may not survive. No queue was drained
   -- after that.
@@ -142,12 +144,11 @@ module _ {P E Req Rep D : Type 0} {G : Ghosts P} (state : P → PortState) (faul
     pub base_low : reads.base ≤ K.word
     pub placed : IsPlacement g c.session reads.front reads.base (planned_at K (calls.writes done)) plan
 
-  -- The plan of the call's group, by the front and the base that the call was answered, does not fit the
-  -- journal area of its queue: by that base there is no room for it beside what the side stores, which the
-  -- session held. The base is not below the one that the session knew of, and a number that the session had
-  -- drawn is above it.
-  pub record LacksArea (g : Geometry) (c : Call Req) (old new : Seat P E G) : Type 0 where
-    pub known : Shared P E G
+  -- By this, which was known at one moment of the call, the plan of its group, made with the front and the
+  -- base that the call was answered, does not fit the journal area of its queue: by that base there is no room
+  -- for it beside what the side stores, which the session held. The base is not below the one that the session
+  -- knew of, and a number that the session had drawn is above it.
+  pub record LacksArea (g : Geometry) (c : Call Req) (known : Shared P E G) (old new : Seat P E G) : Type 0 where
     pub from : IsKnownFrom state faults group old known
     pub reads : WordsRead
     pub answers : new.reading.answers ≡ Base reads.base ∷ Front reads.front ∷ old.reading.answers
@@ -161,10 +162,13 @@ module _ {P E Req Rep D : Type 0} {G : Ghosts P} (state : P → PortState) (faul
     pub drew : 0 < times number old.drawn
     pub above : reads.base < number
 
-  -- The plan of the group does not fit the area of its queue. Nothing was drawn, read or reported.
+  -- The plan of the group does not fit the area of its queue. Nothing was drawn, read or reported. The session
+  -- has seen every number that was known then.
   pub record IsAreaFull (g : Geometry) (c : Call Req) (old new : Seat P E G) : Type 0 where
     pub keeps : KeepsAll old new
-    pub lacks : LacksArea g c old new
+    pub known : Shared P E G
+    pub seen : newest known ≤ new.seen
+    pub lacks : LacksArea g c known old new
 
   -- So a checkpoint was made, and has brought the base to this number.
   pub record MadeRoom (g : Geometry) (c : Call Req) (old new : Seat P E G) : Type 0 where

@@ -122,16 +122,18 @@ module _ {P E Req Rep D : Type 0} {G : Ghosts P} (state : P → PortState) (faul
     pub reserved : vec_len s.stored < vec_capacity s.stored
     pub none : s.kept ≡ None
 
-  -- Why the commit of the call is not prepared, and what stands behind that: the plan of its group does not
-  -- fit the journal area of the queue; or the side shows what will be reported of its port, and had come to
-  -- it in hand, and the group was to be drawn.
+  -- Why the commit of the call is not prepared, and what stands behind that, by all that may be known by now:
+  -- the plan of its group does not fit the journal area of the queue; or the side shows what will be reported
+  -- of its port, and had come to it in hand, and the group was to be drawn.
   abbrev pub IsObstacle : Geometry → Call Req → (old : Seat P E G) → QueueSide P E G → Seat P E G → Obstacle
       → Type 0
   IsObstacle g c old s v obstacle.Memory = Unit {0}
-  IsObstacle g c old s v obstacle.Area = LacksArea state faults group calls g c old v
+  IsObstacle g c old s v obstacle.Area =
+      (K : Shared P E G) → Sees (journal state faults group) v K → LacksArea state faults group calls g c K old v
   IsObstacle g c old s v (obstacle.Drive cause) =
       ShowsReport state faults group c.session (report_of cause) s v
-      × MeetsRefusal state faults group calls g c old cause
+      × ((K : Shared P E G) → Sees (journal state faults group) v K
+      → MeetsRefusal state faults group calls g c K old cause)
 
   -- Why a group that was run on its pages was not done, and what that leaves.
   abbrev pub IsMissed : Geometry → Call Req → Seat P E G → Seat P E G → Miss → Type 0

@@ -15,3 +15,4 @@ pub mod Calling
 pub mod Refusing
 pub mod Synchronizing
 pub mod Seats
+pub mod Opening

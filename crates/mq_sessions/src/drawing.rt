@@ -20,6 +20,7 @@ use crate::executor::Executor;
 use crate::leaving::give_drawn_pages;
 use crate::pages::give_back_pages;
 use crate::preparing::make_ready;
+use crate::rounds::look_only;
 use mq_blocks::{Geometry, TxNo};
 use mq_drive::Port;
 use mq_journal::{
@@ -178,6 +179,8 @@ pub fn commit<P: Port + Drop, G: Executor, R: Wait>(
             Err(at) => Err(Miss::Cut(at)),
         },
         Err(obstacle) => {
+            // What was known while it held these turns, the session has seen.
+            look_only(desk, chair);
             give_up(desk, chair, side, held, &obstacle);
             Err(miss_of(obstacle))
         }

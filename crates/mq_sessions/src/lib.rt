@@ -22,6 +22,7 @@ mod reading;
 mod reads;
 mod rounds;
 mod seats;
+mod shaped;
 mod users;
 mod wanted;
 
@@ -47,5 +48,6 @@ pub use reading::read_group;
 pub use reads::Reads;
 pub use rounds::run_held;
 pub use seats::{equip, leave, seat, set_apart};
+pub use shaped::Shaped;
 pub use users::{Aide, CALL_LIMIT, User};
 pub use wanted::take_more;

@@ -60,8 +60,8 @@ fn run_in_rounds<P: Port + Drop, G: Executor, R: Wait>(
     }
 }
 
-// Looks, and reads no group.
-fn look_only<P: Port + Drop, G: Groups>(
+/// Looks, and reads no group.
+pub fn look_only<P: Port + Drop, G: Groups>(
     desk: &Desk<JournalMachine<P, G>>,
     chair: &mut Chair<JournalMachine<P, G>>,
 )

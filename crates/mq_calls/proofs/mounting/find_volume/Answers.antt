@@ -5,7 +5,8 @@ use Rattle.mq_tree.specs.Corrupt.{Refuses}
 use Rattle.mq_tree.specs.Laid.{IsTreeOf, map_of}
 use Rattle.mq_tree.specs.Volume.{Things, tree}
 use Rattle.mq_tree.specs.declared.corrupt.MountRefusal.TheVariants as mount
-use Rattle.mq_calls.proofs.MountingStartReads.{opens, refuses, start-read, wanting}
+use Rattle.mq_calls.proofs.MountingVolumes.{opens, refuses, wanting}
+use Rattle.mq_sessions.proofs.OpeningStartReads.{start-read}
 use Rattle.mq_calls.proofs.mounting.find_volume.Goals as goal
 
 pub only_memory-requires : goal.only_memory-requires

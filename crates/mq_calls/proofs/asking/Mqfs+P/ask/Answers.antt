@@ -4,9 +4,10 @@ use Rattle.std.specs.List.{All}
 use Rattle.mq_tree.specs.Requests.{is_change}
 use Rattle.mq_turns.specs.AtDesk.{view}
 use Rattle.mq_calls.specs.Asking.{changes, memory}
-use Rattle.mq_calls.proofs.Sessions.{keeps-at-once, ready-counted}
+use Rattle.mq_file_entries.specs.Group.{file_group}
 use Rattle.mq_calls.proofs.AskingFirstChange.{at-answer, at-change, at-wanting, none-changes}
 use Rattle.mq_sessions.proofs.Attempts.{goes-at-once}
+use Rattle.mq_sessions.proofs.SessionsCalled.{keeps-at-once, ready-counted}
 use Rattle.mq_calls.proofs.asking.Mqfs+P.ask.Goals as goal
 
 pub returns-in-Some-clause-refused : goal.returns-in-Some-clause-refused
@@ -18,7 +19,7 @@ returns-in-Some-clause-changes g c = at-change c.args.requests.now c.in-Some.ind
 pub returns-in-Some-clause-ready : goal.returns-in-Some-clause-ready
 returns-in-Some-clause-ready g c =
     let s = c.args.session.now in
-    ready-counted c.args.self.now.geometry s.queue s.calls c.counted-session.result _ s.held (view s.chair) c.counted-session.ensures.one c.counted-session.ensures.limit c.requires.ready
+    ready-counted file_group c.args.self.now.geometry s.queue s.calls c.counted-session.result _ s.held (view s.chair) c.counted-session.ensures.one c.counted-session.ensures.limit c.requires.ready
 
 pub returns-in-Some-clause-goes : goal.returns-in-Some-clause-goes
 returns-in-Some-clause-goes g c = goes-at-once (view c.args.session.now.chair)

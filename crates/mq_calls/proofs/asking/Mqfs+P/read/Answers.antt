@@ -1,10 +1,12 @@
 use Rattle.std.proofs.Common.{◌∙◌, inl, refl}
 use Rattle.std.specs.Prelude.{false}
 use Rattle.mq_turns.specs.AtDesk.{start_of, view}
-use Rattle.mq_calls.proofs.Sessions.{reads-only, ready-again, ready-read}
+use Rattle.mq_calls.proofs.Sessions.{reads-only, ready-read}
+use Rattle.mq_file_entries.specs.Group.{file_group}
 use Rattle.mq_sessions.proofs.WantedFurther.{same-then}
 use Rattle.mq_calls.specs.Runs.{file_calls}
 use Rattle.mq_sessions.proofs.Attempts.{goes-read, goes-same, goes-then}
+use Rattle.mq_sessions.proofs.SessionsCalled.{ready-again}
 use Rattle.mq_calls.proofs.PagesNotDrawn.{reads-nothing}
 use Rattle.mq_calls.proofs.asking.Mqfs+P.read.Goals as goal
 
@@ -17,7 +19,7 @@ pub returns-in_err-at-clause-ready : goal.returns-in_err-at-clause-ready
 returns-in_err-at-clause-ready g c =
     let left = c.in_err-at.ensures in
     let same = same-then (view c.args.session.now.chair) (view c.run_held.new.chair) (view c.read_group.new.chair) c.run_held.ensures.same left.same in
-    ready-again c.args.self.now.geometry c.args.session.now.queue c.args.session.now.calls c.args.session.now.held c.read_group.new.held (view c.args.session.now.chair) (view c.read_group.new.chair) c.requires.ready same left.left c.read_group.ensures.cells (c.read_group.ensures.room ∙ c.run_held.ensures.room)
+    ready-again file_group c.args.self.now.geometry c.args.session.now.queue c.args.session.now.calls c.args.session.now.held c.read_group.new.held (view c.args.session.now.chair) (view c.read_group.new.chair) c.requires.ready same left.left c.read_group.ensures.cells (c.read_group.ensures.room ∙ c.run_held.ensures.room)
 
 pub returns-clause-ready : goal.returns-clause-ready
 returns-clause-ready g c =

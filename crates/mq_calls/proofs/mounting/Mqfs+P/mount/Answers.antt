@@ -1,6 +1,6 @@
 use Rattle.mq_turns.specs.AtDesk.{start_of}
 use Rattle.mq_calls.specs.Mounting.{memory}
-use Rattle.mq_calls.proofs.MountingStartReads.{mounted}
+use Rattle.mq_calls.proofs.MountingVolumes.{mounted}
 use Rattle.mq_calls.proofs.mounting.Mqfs+P.mount.Goals as goal
 
 pub returns-in-Ok-open-clause-desk : goal.returns-in-Ok-open-clause-desk

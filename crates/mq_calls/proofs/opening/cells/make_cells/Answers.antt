@@ -1,14 +1,14 @@
 use Rattle.std.proofs.Common.{◌≡◌, ◌+◌, ◌++◌, ◌∷◌, [], ℕ, List, Option, length, refl, ap, subst, ◌∙◌, arith, rules}
 use Rattle.std.proofs.lemmas.List.{length_push}
 use Rattle.mq_tree.specs.Laid.{map_of}
-use Rattle.mq_calls.proofs.OpeningCells.{made-more, made-none}
+use Rattle.mq_sessions.proofs.OpeningCells.{made-more, made-none}
 use Rattle.mq_calls.proofs.opening.cells.make_cells.Goals as goal
 
 pub loop-block-init : goal.loop-block-init
 loop-block-init c =
     let none : c.in_ok-cells.cells.items ≡ [] = c.in_ok-cells.ensures.items in
     record {
-      made = made-none c.args.geometry c.args.standing.blocks.items c.args.standing.base c.in_ok-cells.cells.items c.requires.whole none;
+      made = made-none c.args.geometry (map_of c.args.geometry) c.args.standing.blocks.items c.args.standing.base c.in_ok-cells.cells.items c.requires.whole none;
       base = refl;
       room = search rules;
     }
@@ -20,7 +20,7 @@ loop-block-preserved c =
     let more : length c.push_reserved.new.self.items ≡ length c.loop-block.cells.items + 1 = ap length c.push_reserved.ensures.items ∙ length_push c.loop-block.cells.items _ in
     let content_is = λ (rest : List (Option (List ℕ))). subst (λ (b : List (Option (List ℕ))). c.in_ok-content.content ≡ map_of c.args.geometry (b ++ c.in-Some.block ∷ rest) c.len-in-Some.result) c.deref.ensures.value (c.in_ok-content.ensures rest) in
     record {
-      made = made-more c.args.geometry c.args.standing.blocks.items c.args.standing.base c.len-in-Some.result c.loop-block.blocks.items c.pop.new.self.items c.in-Some.block c.loop-block.cells.items c.push_reserved.new.self.items _ c.loop-block.invariant.made last (search rules) content_is refl c.push_reserved.ensures.items;
+      made = made-more c.args.geometry (map_of c.args.geometry) c.args.standing.blocks.items c.args.standing.base c.len-in-Some.result c.loop-block.blocks.items c.pop.new.self.items c.in-Some.block c.loop-block.cells.items c.push_reserved.new.self.items _ c.loop-block.invariant.made last (search rules) content_is refl c.push_reserved.ensures.items;
       base = refl;
       room = let room = c.loop-block.invariant.room in let same = c.push_reserved.ensures.capacity in omega arith;
     }

@@ -1,37 +1,27 @@
 -- What is read on a drive that is a start of the machine: nothing is left to bring home, so what stands is
 -- at home.
-use Rattle.std.proofs.Common.{◌≡◌, ◌≢◌, ◌⊎◌, inl, inr, ℕ, zero, suc, ◌-◌, ◌%◌, ◌<◌, ◌≤◌, true, List, [], get_or, replicate, refl, sym, ap, subst, ◌∙◌, arith}
+use Rattle.std.proofs.Common.{◌≡◌, ◌⊎◌, inl, inr, ℕ, zero, suc, ◌-◌, ◌%◌, ◌<◌, ◌≤◌, true, List, [], get_or, replicate, refl, sym, ap, ◌∙◌, arith}
 use Rattle.std.specs.Prelude.{Option, Some, None}
 use Rattle.std.proofs.lemmas.List.{length-replicate, get_or-replicate}
+use Rattle.std.proofs.lemmas.List.FromFn.{length-map-range_with_len}
 use Rattle.mq_blocks.specs.Blocks.{block_at}
 use Rattle.mq_blocks.specs.Limits.{depth}
 use Rattle.mq_blocks.specs.Descriptor.{Descriptor}
-use Rattle.mq_blocks.specs.Drive.{PortImage, PortState}
+use Rattle.mq_blocks.specs.Drive.{PortImage}
 use Rattle.mq_blocks.specs.Geometry.{homes_of}
 use Rattle.mq_blocks.specs.Journal.{AreWhole, number_limit, stands}
 use Rattle.mq_blocks.specs.declared.geometry.Geometry.{Geometry}
-use Rattle.mq_drive.specs.Steps.{PortFault}
-use Rattle.mq_drive.specs.declared.port.Port.{Ghosts}
-use Rattle.mq_drive.specs.declared.port.Ports.{Ports}
-use Rattle.mq_file_entries.specs.declared.entry.FileEntry.{FileEntry}
-use Rattle.mq_journal.specs.Numbers.{Start}
+use Rattle.mq_blocks.specs.Machine.{Map}
 use Rattle.mq_ledger.specs.State.{IsStart, IsStartPort, port_at}
 use Rattle.mq_ledger.specs.Written.{journal_entries}
-use Rattle.mq_recover.specs.Drives.{DriveState, drive_of, view_over}
+use Rattle.mq_recover.specs.Drives.{DriveState, view_over}
 use Rattle.mq_recover.specs.Recovery.{IsReadPrefix, IsStartDrive, started}
 use Rattle.mq_recover.specs.Standing.{StandsIn}
 use Rattle.mq_recover.specs.declared.standing.Standing.{Standing}
 use Rattle.mq_recover.proofs.DrivesImages.{read-same}
 use Rattle.mq_recover.proofs.DrivesZones.{image-at}
-use Rattle.mq_tree.specs.Corrupt.{Refuses}
-use Rattle.mq_tree.specs.Laid.{IsLaid, IsTreeOf, map_of}
-use Rattle.mq_tree.specs.Volume.{Things, Volume, layout, tree}
-use Rattle.mq_tree.proofs.LaidMaps.{same-map, laid-along}
-use Rattle.mq_tree.specs.declared.corrupt.MountRefusal.{MountRefusal}
-use Rattle.mq_tree.specs.declared.corrupt.MountRefusal.TheVariants as mount
-use Rattle.mq_calls.specs.Mounting.{HoldsVolume, IsMountedOver, IsNotMounted, corrupt, memory}
-use Rattle.mq_calls.specs.Opening.{IsOpenedOver, MayOpen}
-use Rattle.mq_calls.proofs.OpeningFresh.{may-open}
+use Rattle.mq_sessions.specs.Opening.{listed}
+use Rattle.mq_sessions.proofs.OpeningState.{map-at}
 
 -- ---- the images of a start
 
@@ -142,40 +132,7 @@ stands-home g d s start (ds, top, read, is) b low =
     let none : ds ≡ [] = (read-same g (view_over g d) ds [] top d.root.base read (start-read g d start)).0 in
     is.blocks_are b low ∙ ap (λ (es : List Descriptor). stands g (view_over g d) es b) none
 
--- a volume that stands, is on what stands, whoever reads it
-laid-on : (g : Geometry) (d : DriveState) (s : Standing) (v : Volume) → IsStartDrive g d → StandsIn g d s → HoldsVolume g d v → IsLaid g (map_of g s.blocks.items) v
-laid-on g d s v start stood holds =
-    let other = holds.standing in
-    laid-along g (map_of g other.blocks.items) (map_of g s.blocks.items) v (same-map g other.blocks.items s.blocks.items (λ b low. stands-home g d other start holds.stands b low ∙ sym (stands-home g d s start stood b low))) holds.laid
-
--- a drive on which a tree stands may be opened
-pub opens : (g : Geometry) (d : DriveState) (s : Standing) (t : Things) → IsStartDrive g d → StandsIn g d s → IsTreeOf g (map_of g s.blocks.items) t → MayOpen g d s
-opens g d s t start stood found =
-    let is = stood.3 in
-    let l = found.laid in
-    may-open g d s start is.whole is.base_is (stands-home g d s start stood) (l.volume, l.laid)
-
--- what is not mounted
-pub refuses : (g : Geometry) (d : DriveState) (s : Standing) (e : MountRefusal) → IsStartDrive g d → StandsIn g d s → Refuses g s.blocks.items e
-    → (e ≢ mount.OutOfMemory → (t : Things) → IsTreeOf g (map_of g s.blocks.items) t → ⊥) → IsNotMounted g d e
-refuses g d s (mount.Corrupt cause b) start stood cause_is none =
-    corrupt s stood cause_is (λ v holds. none (λ e. cc) (tree v) (tree-of (laid-on g d s v start stood holds)))
-  where
-    tree-of : {v : Volume} → IsLaid g (map_of g s.blocks.items) v → IsTreeOf g (map_of g s.blocks.items) (tree v)
-    tree-of {v} laid = record { places = layout v; laid = record { volume = v; laid = laid; things = λ path. refl; places = λ path. refl } }
-refuses g d s mount.OutOfMemory start stood cause_is none = memory
-
-pub wanting : (g : Geometry) (d : DriveState) (e : MountRefusal) → e ≡ mount.OutOfMemory → IsNotMounted g d e
-wanting g d e is = subst (IsNotMounted g d) (sym is) memory
-
-module _ {P : Type 0} {G : Ghosts P} (state : P → PortState) (faults : P → List PortFault) where
-  pub mounted : (g : Geometry) (ports : Ports P) (s : Standing) (o : Start P FileEntry G) → IsStartDrive g (drive_of state ports) → StandsIn g (drive_of state ports) s → MayOpen g (drive_of state ports) s
-      → IsOpenedOver state faults g ports s o → IsMountedOver state faults g ports o
-  mounted g ports s o start stood may opened = record {
-    standing = s;
-    stands = stood;
-    homes = stands-home g (drive_of state ports) s start stood;
-    opened = opened;
-    volume = may.mounts.0;
-    laid = may.mounts.1;
-  }
+-- such a drive is a start of the machine over each map of home blocks that what stands holds
+pub starts-over : (g : Geometry) (d : DriveState) (s : Standing) (m : Map) → IsStartDrive g d → StandsIn g d s → ((b : ℕ) → homes_of g ≤ b → m b ≡ None) → ((b : ℕ) (page : List ℕ) → m b ≡ Some page → page ≡ block_at s.blocks.items b)
+    → IsStart journal_entries (started g d (listed g m))
+starts-over g d s m start stood none held = start (listed g m) (length-map-range_with_len m 0 (homes_of g)) (λ x content low e. sym (stands-home g d s start stood x low) ∙ sym (held x content (sym (map-at g m none x) ∙ e)))

@@ -1,13 +1,13 @@
 -- The state of the machine at an opening, by the values that a desk is opened with.
-use Rattle.std.proofs.Common.{◌≡◌, ℕ, zero, suc, ◌-◌, ◌^◌, ◌<◌, ◌≤◌, Bool, cond, List, [], ◌∷◌, length, get_or, map, replicate, refl, sym, ap, subst, ◌∙◌, inl, inr, arith}
-use Rattle.std.specs.Prelude.{Option, Some, None, nat_lt, slice_get, ◌&&◌}
+use Rattle.std.proofs.Common.{◌≡◌, ℕ, zero, suc, ◌-◌, ◌^◌, ◌<◌, ◌≤◌, List, [], ◌∷◌, length, get_or, map, replicate, refl, sym, ap, subst, ◌∙◌, inl, inr, arith}
+use Rattle.std.specs.Prelude.{Option, Some, None, slice_get}
 use Rattle.std.specs.List.{range_with_len}
-use Rattle.std.proofs.lemmas.Bool.{cases_lt, le-ltb}
+use Rattle.std.proofs.lemmas.Bool.{cases_lt}
 use Rattle.std.proofs.lemmas.List.{get_or_past, length-map}
 use Rattle.std.proofs.lemmas.List.FromFn.{get_or-map-range_with_len, length-map-range_with_len}
-use Rattle.mq_blocks.specs.Blocks.{block_at}
 use Rattle.mq_blocks.specs.Drive.{PortState}
-use Rattle.mq_blocks.specs.Geometry.{homes_of, meta_of}
+use Rattle.mq_blocks.specs.Geometry.{homes_of}
+use Rattle.mq_blocks.specs.Machine.{Map}
 use Rattle.mq_blocks.specs.declared.geometry.Geometry.{Geometry}
 use Rattle.mq_drive.proofs.StartRolePorts.{is-port_of}
 use Rattle.mq_ledger.specs.State.{IsStart, IsStartPort, no_port, port_at}
@@ -20,9 +20,8 @@ use Rattle.mq_desk_laws.specs.Opening.{state_of}
 use Rattle.mq_desk_laws.specs.Rule.{shape_of}
 use Rattle.mq_desk_laws.specs.Values.{Values}
 use Rattle.mq_desk_laws.proofs.Opening.{at_map}
-use Rattle.mq_tree.specs.Laid.{is_marked, map_of}
 use Rattle.mq_turns.specs.declared.rule.Opening.{Opening}
-use Rattle.mq_calls.specs.Opening.{first_cell, first_cells, stored_map}
+use Rattle.mq_sessions.specs.Opening.{first_cell, first_cells, listed}
 use Rattle.mq_queue_side.specs.Opening.{IsIdle}
 
 -- ---- lists
@@ -36,40 +35,34 @@ all-same {B = B} b [] = refl
 all-same {B = B} b (x ∷ xs) = ap (λ (ys : List B). b ∷ ys) (all-same b xs)
 
 -- an element of a list that is made by a function
-pub of-map : {A B : Type 0} (f : A → B) (xs : List A) (k : ℕ) (y : B) → slice_get (map f xs) k ≡ Some y → (x : A) × (y ≡ f x)
+of-map : {A B : Type 0} (f : A → B) (xs : List A) (k : ℕ) (y : B) → slice_get (map f xs) k ≡ Some y → (x : A) × (y ≡ f x)
 of-map f [] k y e = absurd (cc)
 of-map f (x ∷ xs) zero y e = let same : f x ≡ y = cc in (x, sym same)
 of-map f (x ∷ xs) (suc k) y e = of-map f xs k y e
 
 -- ---- the map
 
-outside : (g : Geometry) (stored : List (Option (List ℕ))) (b : ℕ) → homes_of g ≤ b → map_of g stored b ≡ None
-unfolding map_of
-outside g stored b out =
-    let high : meta_of g ≤ b = omega arith in
-    ap (λ (c : Bool). cond c (Some (block_at stored b)) (cond (nat_lt b (homes_of g) && is_marked g stored b) (Some (block_at stored b)) None)) (le-ltb b (meta_of g) high)
-    ∙ ap (λ (c : Bool). cond (c && is_marked g stored b) (Some (block_at stored b)) None) (le-ltb b (homes_of g) out)
+module _ (g : Geometry) (m : Map) where
+  -- the list says of each block what the map has there, which has none but home blocks
+  pub map-at : ((b : ℕ) → homes_of g ≤ b → m b ≡ None) → (b : ℕ) → get_or (listed g m) b None ≡ m b
+  map-at none b = elim (cases_lt b (homes_of g)) [
+    | inl low ↦ get_or-map-range_with_len m 0 (homes_of g) b b None low (omega arith)
+    | inr out ↦
+        let few = length-map-range_with_len m 0 (homes_of g) in
+        get_or_past (listed g m) b None (omega arith) ∙ sym (none b out)
+  ]
 
--- the list says of each block what the map has there
-pub map-at : (g : Geometry) (stored : List (Option (List ℕ))) (b : ℕ) → get_or (stored_map g stored) b None ≡ map_of g stored b
-map-at g stored b = elim (cases_lt b (homes_of g)) [
-  | inl low ↦ get_or-map-range_with_len (map_of g stored) 0 (homes_of g) b b None low (omega arith)
-  | inr out ↦
-      let few = length-map-range_with_len (map_of g stored) 0 (homes_of g) in
-      get_or_past (stored_map g stored) b None (omega arith) ∙ sym (outside g stored b out)
-]
+  -- the contents of the first cells
+  pub first-contents : (base : ℕ) → map (λ c. c.content) (first_cells g m base) ≡ listed g m
+  first-contents base = map-after (λ (c : PageCell). c.content) (λ (b : ℕ). first_cell base (m b)) (range_with_len 0 (homes_of g))
 
--- the contents of the first cells
-pub first-contents : (g : Geometry) (stored : List (Option (List ℕ))) (base : ℕ) → map (λ c. c.content) (first_cells g stored base) ≡ stored_map g stored
-first-contents g stored base = map-after (λ (c : PageCell). c.content) (λ (b : ℕ). first_cell base (map_of g stored b)) (range_with_len 0 (homes_of g))
+  pub first-count : (base : ℕ) → length (first_cells g m base) ≡ homes_of g
+  first-count base = length-map-range_with_len (λ (b : ℕ). first_cell base (m b)) 0 (homes_of g)
 
-pub first-count : (g : Geometry) (stored : List (Option (List ℕ))) (base : ℕ) → length (first_cells g stored base) ≡ homes_of g
-first-count g stored base = length-map-range_with_len (λ (b : ℕ). first_cell base (map_of g stored b)) 0 (homes_of g)
-
-pub first-numbers : (g : Geometry) (stored : List (Option (List ℕ))) (base b : ℕ) (c : PageCell) → slice_get (first_cells g stored base) b ≡ Some c → (c.version ≡ base) × (c.last_logged ≡ base) × (c.home_version ≡ base)
-first-numbers g stored base b c e =
-    let at = of-map (λ (k : ℕ). first_cell base (map_of g stored k)) (range_with_len 0 (homes_of g)) b c e in
-    (ap (λ (d : PageCell). d.version) at.1, ap (λ (d : PageCell). d.last_logged) at.1, ap (λ (d : PageCell). d.home_version) at.1)
+  pub first-numbers : (base b : ℕ) (c : PageCell) → slice_get (first_cells g m base) b ≡ Some c → (c.version ≡ base) × (c.last_logged ≡ base) × (c.home_version ≡ base)
+  first-numbers base b c e =
+      let at = of-map (λ (k : ℕ). first_cell base (m k)) (range_with_len 0 (homes_of g)) b c e in
+      (ap (λ (d : PageCell). d.version) at.1, ap (λ (d : PageCell). d.last_logged) at.1, ap (λ (d : PageCell). d.home_version) at.1)
 
 -- ---- the ports
 
