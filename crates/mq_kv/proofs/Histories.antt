@@ -13,7 +13,7 @@ use Rattle.mq_desk_laws.specs.Values.{Values}
 use Rattle.mq_kv_buckets.specs.Buckets.{records_of}
 use Rattle.mq_kv_buckets.specs.Keys.{bucket_of}
 use Rattle.mq_kv_buckets.specs.Records.{lookup}
-use Rattle.mq_kv_buckets.specs.Store.{Runs, Store, delete_reply, is_key, kv_of, read_reply, store_after, store_reply, stored}
+use Rattle.mq_kv_buckets.specs.Store.{AreBuckets, Runs, Store, delete_reply, is_key, kv_of, read_reply, store_after, store_reply, stored}
 use Rattle.mq_kv_buckets.specs.declared.operation.KvOp.{KvOp}
 use Rattle.mq_kv_buckets.specs.declared.operation.KvOp.TheVariants.{Delete, Get, Put}
 use Rattle.mq_kv_buckets.specs.declared.operation.KvReply.{KvReply}
@@ -24,7 +24,8 @@ use Rattle.mq_kv_entries.specs.Entries.{Does, Ran, map_by, tx_of}
 use Rattle.mq_kv_entries.specs.Group.{store_group}
 use Rattle.mq_kv_entries.specs.declared.entry.KvEntry.{KvEntry}
 use Rattle.mq_kv_entries.proofs.Entries.{some-buckets}
-use Rattle.mq_kv.specs.Laws.{Leads}
+use Rattle.mq_kv.specs.Laws.{AnswerOn, Leads, buckets_after}
+use Rattle.mq_kv.proofs.AlikeBuckets.{Alike as AlikeBuckets, after-alike, answers-more, buckets-more, replies-alike}
 use Rattle.mq_ledger.specs.History.{change_of, map_after}
 use Rattle.mq_ledger.specs.declared.tx.Tx.{Tx}
 
@@ -131,3 +132,25 @@ module _ {Q R : Type 0} (values : Values Q R KvEntry) (g : Geometry) (start : Ma
       let before = there-log es b page is in
       let now = there-after (at es) e b before.0 before.1 in
       (now.0, sym (ap (λ (m : Map). m b) (after-numbered (at es) (base + length es + 1) (tx_of e))) ∙ now.1)
+
+  -- ---- the buckets of a history, byte for byte
+
+  pub formed-log : (es : List KvEntry) → IsLegalHistory values store_group g start base es → AreBuckets (meta_of g) (at es)
+  formed-log [] legal = legal
+  formed-log (e ∷ es) legal = subst (λ (m : Map). AreBuckets (meta_of g) m) (after-numbered (at es) (base + length es + 1) (tx_of e)) legal.0.buckets
+
+  pub buckets-log : (es : List KvEntry) → IsLegalHistory values store_group g start base es → AlikeBuckets (meta_of g) (at es) (buckets_after (meta_of g) start (reverse es))
+  buckets-log [] legal b low = refl
+  buckets-log (e ∷ es) legal b low =
+      sym (ap (λ (m : Map). content (m b)) (after-numbered (at es) (base + length es + 1) (tx_of e)))
+      ∙ (legal.0.next b
+      ∙ (after-alike (meta_of g) (some-buckets g) (at es) (buckets_after (meta_of g) start (reverse es)) e.ops (buckets-log es legal.2) b low
+      ∙ (ap (λ (m : Map). content (m b)) (sym (buckets-more (meta_of g) start (reverse es) e))
+      ∙ ap (λ (xs : List KvEntry). content (buckets_after (meta_of g) start xs b)) (sym (reverse-append (e ∷ []) es)))))
+
+  pub answers-log : (es : List KvEntry) → IsLegalHistory values store_group g start base es → AnswerOn (meta_of g) start (reverse es)
+  answers-log [] legal = tt
+  answers-log (e ∷ es) legal =
+      subst (λ (xs : List KvEntry). AnswerOn (meta_of g) start xs) (sym (reverse-append (e ∷ []) es))
+      (answers-more (meta_of g) start (reverse es) e (answers-log es legal.2)
+      (legal.0.ran.is.replies_are ∙ replies-alike (meta_of g) (some-buckets g) (at es) (buckets_after (meta_of g) start (reverse es)) e.ops (buckets-log es legal.2)))

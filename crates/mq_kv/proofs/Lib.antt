@@ -1,7 +1,5 @@
-pub mod OpeningCells
-pub mod OpeningState
-pub mod OpeningFresh
+pub mod OpeningStore
+pub mod AlikeBuckets
 pub mod Histories
 pub mod Recovered
-pub mod StartReads
 pub mod Leaving

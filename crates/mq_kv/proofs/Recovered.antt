@@ -18,6 +18,7 @@ use Rattle.mq_drive.specs.declared.port.Port.{Ghosts}
 use Rattle.mq_drive.specs.declared.port.Ports.{Ports}
 use Rattle.mq_journal.specs.Numbers.{Seat, Shared, Start}
 use Rattle.mq_journal.specs.Values.{side_values}
+use Rattle.mq_kv_buckets.specs.Buckets.{IsFormed}
 use Rattle.mq_kv_buckets.specs.Keys.{bucket_of}
 use Rattle.mq_kv_buckets.specs.Store.{Store, kv_of}
 use Rattle.mq_kv_buckets.proofs.StoreLaws.{bucket-low}
@@ -26,10 +27,11 @@ use Rattle.mq_kv_entries.specs.Group.{store_group}
 use Rattle.mq_kv_entries.specs.declared.entry.KvEntry.{KvEntry}
 use Rattle.mq_kv_entries.proofs.Entries.{meta-home, some-buckets}
 use Rattle.mq_kv_groups.proofs.Members.{cons-cases, none-contained}
-use Rattle.mq_kv.specs.Laws.{HoldsPrefix, IsCutOfEnd, IsRepliedAt, Leads, first_groups, first_store}
+use Rattle.mq_kv.specs.Laws.{AnswerOn, HoldsPrefix, IsCutOfEnd, IsRepliedAt, Leads, buckets_after, buckets_at, first_groups, first_store}
 use Rattle.mq_kv.specs.Opening.{IsOpenedOver, store_map}
-use Rattle.mq_kv.proofs.Histories.{Alike, kv-same, leads-from, leads-log, legal-older, ran-runs, there-log}
-use Rattle.mq_kv.proofs.OpeningState.{map-at}
+use Rattle.mq_kv.proofs.AlikeBuckets.{Alike as AlikeBuckets, answers-alike, groups-alike, replies-alike}
+use Rattle.mq_kv.proofs.Histories.{Alike, answers-log, buckets-log, formed-log, kv-same, leads-from, leads-log, legal-older, ran-runs, there-log}
+use Rattle.mq_kv.proofs.OpeningStore.{map-at}
 use Rattle.mq_ledger.specs.History.{map_after, upto}
 use Rattle.mq_queue_side.specs.declared.root.Root.{Root}
 use Rattle.mq_queue_side.specs.declared.side.QueueSide.{QueueSide}
@@ -140,14 +142,28 @@ module _ {P : Type 0} (G : Ghosts P) (state : P → PortState) (faults : P → L
   long : length (runs.history_of r) ≡ length K.log
   long = ap length run.run.history ∙ (numbered-length (suc K.opening.base) (reverse K.log) ∙ length-reverse K.log)
 
+  groups-old : (n : ℕ) (u : Upto n) → first_groups (length u.old) r ≡ reverse u.old
+  groups-old n u =
+      ap (λ (hs : List (ℕ × KvEntry)). map (λ h. h.1) (take (length u.old) hs)) run.run.history
+      ∙ (numbered-take (length u.old) (suc K.opening.base) (reverse K.log) ∙ older K.log u.newer u.old u.whole)
+
+  legal-old : (n : ℕ) (u : Upto n) → IsLegalHistory values store_group g start K.opening.base u.old
+  legal-old n u = legal-older values g start K.opening.base u.newer u.old (subst (λ (es : List KvEntry). IsLegalHistory values store_group g start K.opening.base es) u.whole legal)
+
   leads-old : (n : ℕ) (u : Upto n) → Leads (first_store g s) (first_groups (length u.old) r) (store-of u.old)
   leads-old n u =
-      let groups : first_groups (length u.old) r ≡ reverse u.old =
-      ap (λ (hs : List (ℕ × KvEntry)). map (λ h. h.1) (take (length u.old) hs)) run.run.history
-      ∙ (numbered-take (length u.old) (suc K.opening.base) (reverse K.log) ∙ older K.log u.newer u.old u.whole) in
-      let own-legal = legal-older values g start K.opening.base u.newer u.old (subst (λ (es : List KvEntry). IsLegalHistory values store_group g start K.opening.base es) u.whole legal) in
-      subst (λ (es : List KvEntry). Leads (first_store g s) es (store-of u.old)) (sym groups)
-      (leads-from (kv_of (meta_of g) start) (first_store g s) (store-of u.old) (reverse u.old) first-alike (leads-log values g start K.opening.base u.old own-legal))
+      subst (λ (es : List KvEntry). Leads (first_store g s) es (store-of u.old)) (sym (groups-old n u))
+      (leads-from (kv_of (meta_of g) start) (first_store g s) (store-of u.old) (reverse u.old) first-alike (leads-log values g start K.opening.base u.old (legal-old n u)))
+
+  start-buckets : AlikeBuckets (meta_of g) start (store_map g s.blocks.items)
+  start-buckets b low = ap content (start-is b)
+
+  -- byte for byte
+  buckets-old : (n : ℕ) (u : Upto n) → AlikeBuckets (meta_of g) (map-of u.old) (buckets_at g s (length u.old) r)
+  buckets-old n u b low =
+      buckets-log values g start K.opening.base u.old (legal-old n u) b low
+      ∙ (groups-alike (meta_of g) (some-buckets g) start (store_map g s.blocks.items) (reverse u.old) start-buckets b low
+      ∙ ap (λ (es : List KvEntry). content (buckets_after (meta_of g) (store_map g s.blocks.items) es b)) (sym (groups-old n u)))
 
   map-upto : (n : ℕ) (u : Upto n) → map_after start (upto n (history_of values store_group K)) ≡ map-of u.old
   map-upto n u =
@@ -161,6 +177,14 @@ module _ {P : Type 0} (G : Ghosts P) (state : P → PortState) (faults : P → L
     pub most : reached ≤ K.opening.base + length K.log
     pub durable : (n : ℕ) → IsKnownDone views r.next n → n ≤ reached
     pub stand : (x : ℕ) (page : List ℕ) → x < homes_of h → map_after start (upto reached (history_of values store_group K)) x ≡ Some page → home x ≡ page
+
+  -- what is found of a bucket
+  bucket-found : (reached : ℕ) (home : ℕ → List ℕ) → Found g reached home → (u : Upto reached) → (b : ℕ) → b < meta_of g → home b ≡ content (map-of u.old b)
+  bucket-found reached home found u b low =
+      let first : start b ≡ Some (block_at s.blocks.items b) = start-is b ∙ ap (λ (t : Bool). cond t (Some (block_at s.blocks.items b)) None) (lt-ltb b (meta_of g) low) in
+      let now = there-log values g start K.opening.base u.old b (block_at s.blocks.items b) first in
+      let is : home b ≡ now.0 = found.stand b now.0 (meta-home g b low) (ap (λ (m : Map). m b) (map-upto reached u) ∙ now.1) in
+      is ∙ sym (ap content now.1)
 
   holds-prefix : (reached : ℕ) (home : ℕ → List ℕ) → Found g reached home → HoldsPrefix g s views r reached home
   holds-prefix reached home found =
@@ -176,13 +200,9 @@ module _ {P : Type 0} (G : Ghosts P) (state : P → PortState) (faults : P → L
         durable = found.durable;
         store = store-of u.old;
         leads = leads-old reached u;
-        holds = λ key.
-            let b = bucket_of (meta_of g) key in
-            let low : b < meta_of g = bucket-low (meta_of g) key (some-buckets g) in
-            let first : start b ≡ Some (block_at s.blocks.items b) = start-is b ∙ ap (λ (t : Bool). cond t (Some (block_at s.blocks.items b)) None) (lt-ltb b (meta_of g) low) in
-            let now = there-log values g start K.opening.base u.old b (block_at s.blocks.items b) first in
-            let is : home b ≡ now.0 = found.stand b now.0 (meta-home g b low) (ap (λ (m : Map). m b) (map-upto reached u) ∙ now.1) in
-            kv-same (meta_of g) (λ x. Some (home x)) (map-of u.old) key (is ∙ sym (ap content now.1));
+        holds = λ key. kv-same (meta_of g) (λ x. Some (home x)) (map-of u.old) key (bucket-found reached home found u (bucket_of (meta_of g) key) (bucket-low (meta_of g) key (some-buckets g)));
+        buckets = λ b low. bucket-found reached home found u b low ∙ buckets-old reached u b low;
+        formed = λ b low. subst IsFormed (sym (bucket-found reached home found u b low)) (formed-log values g start K.opening.base u.old (legal-old reached u) b low);
       }
 
   -- ---- by the laws of recovery
@@ -242,6 +262,12 @@ module _ {P : Type 0} (G : Ghosts P) (state : P → PortState) (faults : P → L
             (leads-from (kv_of (meta_of g) start) (first_store g s) (store-of K.log) (reverse K.log) first-alike (leads-log values g start K.opening.base K.log legal)),
       )
 
+  pub exact : AnswerOn (meta_of g) (store_map g s.blocks.items) (map (λ h. h.1) (runs.history_of r))
+  exact =
+      let groups : map (λ h. h.1) (runs.history_of r) ≡ reverse K.log = ap (map (λ (h : ℕ × KvEntry). h.1)) run.run.history ∙ numbered-all (suc K.opening.base) (reverse K.log) in
+      subst (λ (es : List KvEntry). AnswerOn (meta_of g) (store_map g s.blocks.items) es) (sym groups)
+      (answers-alike (meta_of g) (some-buckets g) start (store_map g s.blocks.items) (reverse K.log) start-buckets (answers-log values g start K.opening.base K.log legal))
+
   replied : (n : ℕ) (e : KvEntry) → IsRead values store_group K n e → IsRepliedAt g s r n e
   replied n e read =
       let u = upto-at n read.low read.high in
@@ -259,6 +285,7 @@ module _ {P : Type 0} (G : Ghosts P) (state : P → PortState) (faults : P → L
         leads = leads-old n u;
         after = kv_of (meta_of g) (map_by g (map-of u.old) e);
         runs = ran-runs g (map-of u.old) e asks.ran;
+        exact = asks.ran.is.replies_are ∙ replies-alike (meta_of g) (some-buckets g) (map-of u.old) (buckets_at g s (length u.old) r) e.ops (buckets-old n u);
       }
 
   each-read : (rs : List (KvEntry × Shared P KvEntry G)) → Each (λ a. IsRead values store_group K (newest a.1) a.0) rs → Each (λ a. IsRepliedAt g s r (newest a.1) a.0) rs

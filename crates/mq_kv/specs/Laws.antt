@@ -1,14 +1,15 @@
 -- The store after a run: what recovery of any image of its ports holds, and what its replies are.
-use Rattle.std.specs.Prelude.{◌≡◌, ◌≤◌, ℕ, suc, ◌+◌, ◌-◌, List, [], ◌∷◌, length, map, take, Some, slice_get}
-use Rattle.mq_blocks.specs.Blocks.{block_at}
+use Rattle.std.specs.Prelude.{◌≡◌, ◌<◌, ◌≤◌, ℕ, suc, ◌+◌, ◌-◌, List, [], ◌∷◌, length, map, take, Some, slice_get}
+use Rattle.mq_blocks.specs.Blocks.{block_at, content}
 use Rattle.mq_blocks.specs.Drive.{PortState, image_of}
 use Rattle.mq_blocks.specs.Geometry.{meta_of}
+use Rattle.mq_blocks.specs.Machine.{Map}
 use Rattle.mq_blocks.specs.declared.geometry.Geometry.{Geometry}
 use Rattle.mq_drive.specs.Steps.{PortFault}
 use Rattle.mq_drive.specs.declared.port.Port.{Ghosts}
 use Rattle.mq_drive.specs.declared.port.Ports.{Ports}
 use Rattle.mq_journal.specs.Numbers.{Seat, Start}
-use Rattle.mq_kv_buckets.specs.Store.{Runs, Store, kv_of}
+use Rattle.mq_kv_buckets.specs.Store.{AreBuckets, Runs, Store, kv_of, map_after_ops, replies_on}
 use Rattle.mq_kv_entries.specs.Group.{store_group}
 use Rattle.mq_kv_entries.specs.declared.entry.KvEntry.{KvEntry}
 use Rattle.mq_kv.specs.Opening.{IsOpenedOver, store_map}
@@ -31,6 +32,17 @@ abbrev pub Leads : Store → List KvEntry → Store → Type 0
 Leads s [] t = (key : List ℕ) → t key ≡ s key
 Leads s (e ∷ es) t = (u : Store) × Runs s e.ops e.replies u × Leads u es t
 
+-- the buckets that groups leave, one after another
+abbrev pub buckets_after : (buckets : ℕ) → Map → List KvEntry → Map
+buckets_after buckets m [] = m
+buckets_after buckets m (e ∷ es) = buckets_after buckets (map_after_ops buckets m e.ops) es
+
+-- The replies of each group are exactly those of the buckets that the groups before it left.
+abbrev pub AnswerOn : (buckets : ℕ) → Map → List KvEntry → Type 0
+AnswerOn buckets m [] = Unit {0}
+AnswerOn buckets m (e ∷ es) =
+    (e.replies ≡ replies_on buckets m e.ops) × AnswerOn buckets (map_after_ops buckets m e.ops) es
+
 -- the store that stood on the drive when it was opened
 abbrev pub first_store : Geometry → Standing → Store
 first_store g s = kv_of (meta_of g) (store_map g s.blocks.items)
@@ -44,8 +56,13 @@ module _ {P : Type 0} {G : Ghosts P} where
   abbrev pub first_groups : ℕ → Ended P KvEntry G → List KvEntry
   first_groups count r = map (λ h. h.1) (take count (history_of r))
 
+  -- the buckets after these, byte for byte
+  abbrev pub buckets_at : Geometry → Standing → ℕ → Ended P KvEntry G → Map
+  buckets_at g s count r = buckets_after (meta_of g) (store_map g s.blocks.items) (first_groups count r)
+
   -- These home blocks hold the store after the first committed groups in number order, up to the number that is
-  -- reached. Each number up to which a session knew all to be done is among them.
+  -- reached. Each number up to which a session knew all to be done is among them. Each bucket is in its form, and
+  -- just what these groups leave.
   pub record HoldsPrefix (g : Geometry) (s : Standing) (views : List (Seat P KvEntry G))
       (r : Ended P KvEntry G) (reached : ℕ) (home : ℕ → List ℕ) : Type 0 where
     pub count : ℕ
@@ -55,8 +72,10 @@ module _ {P : Type 0} {G : Ghosts P} where
     pub store : Store
     pub leads : Leads (first_store g s) (first_groups count r) store
     pub holds : (key : List ℕ) → store_at g home key ≡ store key
+    pub buckets : (b : ℕ) → b < meta_of g → home b ≡ content (buckets_at g s count r b)
+    pub formed : AreBuckets (meta_of g) (λ b. Some (home b))
 
-  -- The replies of the group are the store's after all groups up to the number.
+  -- The replies of the group are the store's after all groups up to the number, and exactly those of its buckets.
   pub record IsRepliedAt (g : Geometry) (s : Standing) (r : Ended P KvEntry G) (n : ℕ) (e : KvEntry) : Type 0 where
     pub count : ℕ
     pub number : n ≡ s.base + count
@@ -65,6 +84,7 @@ module _ {P : Type 0} {G : Ghosts P} where
     pub leads : Leads (first_store g s) (first_groups count r) store
     pub after : Store
     pub runs : Runs store e.ops e.replies after
+    pub exact : e.replies ≡ replies_on (meta_of g) (buckets_at g s count r) e.ops
 
 module _ {P : Type 0} (G : Ghosts P) (state : P → PortState) (faults : P → List PortFault) where
   -- a power cut may leave this of the ports at the end
@@ -104,6 +124,15 @@ module _ {P : Type 0} (G : Ghosts P) (state : P → PortState) (faults : P → L
       → IsOpenedOver state faults g ports s o
       → HasRun state faults store_group o views r
       → (store : Store) × Leads (first_store g s) (map (λ h. h.1) (history_of r)) store
+
+  -- They are exactly those of the buckets, so that no put is refused whose bucket has room.
+  abbrev pub CommitsAreExact : Type 0
+  CommitsAreExact =
+      (g : Geometry) (ports : Ports P) (s : Standing) (o : Start P KvEntry G)
+      (views : List (Seat P KvEntry G)) (r : Ended P KvEntry G)
+      → IsOpenedOver state faults g ports s o
+      → HasRun state faults store_group o views r
+      → AnswerOn (meta_of g) (store_map g s.blocks.items) (map (λ h. h.1) (history_of r))
 
   -- Those of a group that was read are the store's at its number.
   abbrev pub ReadsAreOfTheStore : Type 0

@@ -15,5 +15,6 @@ mod session;
 pub use calls::{KvAnswer, KvCause, KvRefusal};
 pub use finding::find_store;
 pub use laws::{recovery_finds_a_store, replies_are_of_the_store};
+pub use mq_sessions::Shaped;
 pub use refusal::KvOpenRefusal;
-pub use session::{Kv, KvMachine, KvSession, Shaped, Store};
+pub use session::{Kv, KvMachine, KvSession, Store};

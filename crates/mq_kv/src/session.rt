@@ -7,26 +7,12 @@ use mq_blocks::Geometry;
 use mq_drive::Port;
 use mq_journal::JournalMachine;
 use mq_kv_entries::KvGroups;
-use mq_sessions::User;
-use mq_turns::{Desk, Machine};
+use mq_sessions::{Shaped, User};
+use mq_turns::Desk;
 
 /// The machine of a store over ports of this kind: pages are cells of home blocks, sides those of queues, and
 /// entries groups of operations.
 pub type KvMachine<P> = JournalMachine<P, KvGroups>;
-
-/// A machine over a drive, whose shape follows from the values that a desk is opened with.
-pub trait Shaped: Machine {
-    ghost use Rattle.mq_blocks.specs.declared.geometry.Geometry.{Geometry};
-    ghost use Rattle.mq_turns.specs.declared.rule.Opening.{Opening};
-
-    ghost shape: { Opening Self.Page Self.Side Self.Root → Geometry };
-}
-
-impl<P: Port + Drop> Shaped for JournalMachine<P, KvGroups> {
-    ghost use Rattle.mq_kv.specs.Opening.{geometry_at};
-
-    ghost shape = { geometry_at P.state P.faults };
-}
 
 /// A store over the ports of a drive. Threads share it by `&`, each with a session of its own.
 pub type Kv<P> = Store<KvMachine<P>>;

@@ -1,7 +1,8 @@
 use Rattle.std.proofs.Common.{[]}
 use Rattle.mq_recover.specs.Drives.{drive_of}
 use Rattle.mq_recover.proofs.DrivesImages.{memory-alone, read-readable}
-use Rattle.mq_kv.proofs.StartReads.{opens, stands-home, start-read}
+use Rattle.mq_kv.proofs.OpeningStore.{opens}
+use Rattle.mq_sessions.proofs.OpeningStartReads.{stands-home, start-read}
 use Rattle.mq_kv.proofs.finding.find_store.Goals as goal
 
 pub only_memory-requires : goal.only_memory-requires

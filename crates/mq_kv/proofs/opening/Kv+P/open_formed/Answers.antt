@@ -6,10 +6,12 @@ use Rattle.mq_desk_laws.specs.Rule.{shape_of}
 use Rattle.mq_desk_laws.proofs.Meaning.{starts}
 use Rattle.mq_journal.specs.Values.{side_values}
 use Rattle.mq_turns.specs.AtDesk.{start_of, view}
-use Rattle.mq_kv.specs.Opening.{IsOpenedOver, stored_map}
+use Rattle.mq_kv.specs.Opening.{IsOpenedOver, store_map, stored_map}
 use Rattle.mq_kv.specs.Seats.{IsEquipped}
-use Rattle.mq_kv.proofs.OpeningFresh.{all-at, map-place, new-session, opened-over, sides-count}
-use Rattle.mq_kv.proofs.OpeningState.{first-count, idle-each}
+use Rattle.mq_kv.proofs.OpeningStore.{carried, outside}
+use Rattle.mq_sessions.proofs.OpeningFresh.{opened-over, sides-count}
+use Rattle.mq_sessions.proofs.OpeningSessions.{all-at, map-place, new-session}
+use Rattle.mq_sessions.proofs.OpeningState.{first-count, idle-each}
 use Rattle.mq_kv.proofs.opening.Kv+P.open_formed.Goals as goal
 
 pub open_sides-requires-clause-idle : goal.open_sides-requires-clause-idle
@@ -17,26 +19,26 @@ open_sides-requires-clause-idle g c = idle-each c.args.geometry g.P.Port.state c
 
 pub open_desk-requires-clause-starts : goal.open_desk-requires-clause-starts
 open_desk-requires-clause-starts g c =
-    let over = opened-over g.P.Port.state g.P.Port.faults c.args.geometry c.args.ports c.args.standing (record { pages = c.in-Ok.provisions.cells.items; sides = c.in-Ok-open_sides.opened.0.items; root = c.open-root.result; base = c.args.standing.base })
-    c.requires.drive c.requires.formed c.in-Ok.ensures.cells refl c.in-Ok-open_sides.ensures.ports c.open-root.ensures c.in-Ok-open_sides.ensures.sides in
+    let over = opened-over g.P.Port.state g.P.Port.faults store_group c.args.geometry (store_map c.args.geometry c.args.standing.blocks.items) c.args.ports c.args.standing (record { pages = c.in-Ok.provisions.cells.items; sides = c.in-Ok-open_sides.opened.0.items; root = c.open-root.result; base = c.args.standing.base })
+    c.requires.drive.start c.requires.drive.base (outside c.args.geometry c.args.standing.blocks.items) (carried c.args.geometry c.args.standing.blocks.items c.requires.formed) c.in-Ok.ensures.cells refl c.in-Ok-open_sides.ensures.ports c.open-root.ensures c.in-Ok-open_sides.ensures.sides in
     starts (side_values g.P.Port.state g.P.Port.faults) store_group _ over.fresh
 
 pub invariant_of-result-clause-shape : goal.invariant_of-result-clause-shape
 invariant_of-result-clause-shape g c =
-    let over = opened-over g.P.Port.state g.P.Port.faults c.args.geometry c.args.ports c.args.standing (record { pages = c.in-Ok.provisions.cells.items; sides = c.in-Ok-open_sides.opened.0.items; root = c.open-root.result; base = c.args.standing.base })
-    c.requires.drive c.requires.formed c.in-Ok.ensures.cells refl c.in-Ok-open_sides.ensures.ports c.open-root.ensures c.in-Ok-open_sides.ensures.sides in
+    let over = opened-over g.P.Port.state g.P.Port.faults store_group c.args.geometry (store_map c.args.geometry c.args.standing.blocks.items) c.args.ports c.args.standing (record { pages = c.in-Ok.provisions.cells.items; sides = c.in-Ok-open_sides.opened.0.items; root = c.open-root.result; base = c.args.standing.base })
+    c.requires.drive.start c.requires.drive.base (outside c.args.geometry c.args.standing.blocks.items) (carried c.args.geometry c.args.standing.blocks.items c.requires.formed) c.in-Ok.ensures.cells refl c.in-Ok-open_sides.ensures.ports c.open-root.ensures c.in-Ok-open_sides.ensures.sides in
     ap (λ o. shape_of (side_values g.P.Port.state g.P.Port.faults) store_group o) c.in-Ok-open_desk.ensures.desk.0 ∙ over.shape
 
 pub invariant_of-result-clause-pages : goal.invariant_of-result-clause-pages
-invariant_of-result-clause-pages g c = ap (λ o. length o.pages) c.in-Ok-open_desk.ensures.desk.0 ∙ (ap length c.in-Ok.ensures.cells ∙ first-count c.args.geometry c.args.standing.blocks.items c.args.standing.base)
+invariant_of-result-clause-pages g c = ap (λ o. length o.pages) c.in-Ok-open_desk.ensures.desk.0 ∙ (ap length c.in-Ok.ensures.cells ∙ first-count c.args.geometry (store_map c.args.geometry c.args.standing.blocks.items) c.args.standing.base)
 
 pub invariant_of-result-clause-sides : goal.invariant_of-result-clause-sides
-invariant_of-result-clause-sides g c = ap (λ o. length o.sides) c.in-Ok-open_desk.ensures.desk.0 ∙ sides-count g.P.Port.state c.args.geometry c.args.ports c.args.standing c.in-Ok-open_sides.opened.0.items c.requires.drive c.in-Ok-open_sides.ensures.ports
+invariant_of-result-clause-sides g c = ap (λ o. length o.sides) c.in-Ok-open_desk.ensures.desk.0 ∙ sides-count g.P.Port.state c.args.geometry c.args.ports (stored_map c.args.geometry c.args.standing.blocks.items) c.in-Ok-open_sides.opened.0.items c.requires.drive.start c.in-Ok-open_sides.ensures.ports
 
 pub returns-in-Ok-open_desk-clause-desk : goal.returns-in-Ok-open_desk-clause-desk
 returns-in-Ok-open_desk-clause-desk g c =
-    let over = opened-over g.P.Port.state g.P.Port.faults c.args.geometry c.args.ports c.args.standing (record { pages = c.in-Ok.provisions.cells.items; sides = c.in-Ok-open_sides.opened.0.items; root = c.open-root.result; base = c.args.standing.base })
-    c.requires.drive c.requires.formed c.in-Ok.ensures.cells refl c.in-Ok-open_sides.ensures.ports c.open-root.ensures c.in-Ok-open_sides.ensures.sides in
+    let over = opened-over g.P.Port.state g.P.Port.faults store_group c.args.geometry (store_map c.args.geometry c.args.standing.blocks.items) c.args.ports c.args.standing (record { pages = c.in-Ok.provisions.cells.items; sides = c.in-Ok-open_sides.opened.0.items; root = c.open-root.result; base = c.args.standing.base })
+    c.requires.drive.start c.requires.drive.base (outside c.args.geometry c.args.standing.blocks.items) (carried c.args.geometry c.args.standing.blocks.items c.requires.formed) c.in-Ok.ensures.cells refl c.in-Ok-open_sides.ensures.ports c.open-root.ensures c.in-Ok-open_sides.ensures.sides in
     subst (λ o. IsOpenedOver g.P.Port.state g.P.Port.faults c.args.geometry c.args.ports c.args.standing o) (sym c.in-Ok-open_desk.ensures.desk.0) over
 
 pub returns-in-Ok-open_desk-clause-each : goal.returns-in-Ok-open_desk-clause-each
@@ -52,4 +54,4 @@ returns-in-Ok-open_desk-clause-each g c = λ i s e.
     let ok = chairs.ok.0 in
     let most = c.requires.sessions.1 in
     omega arith in
-    (seated.0, new-session c.args.geometry (start_of c.in-Ok-open_desk.desk) i s.queue s.calls s.wanted.items s.held (view s.chair) low seated.1 (c.seat-seated.ensures.each i s e) equipped)
+    (seated.0, new-session store_group c.args.geometry (start_of c.in-Ok-open_desk.desk) i s.queue s.calls s.wanted.items s.held (view s.chair) low seated.1 (c.seat-seated.ensures.each i s e) equipped)
