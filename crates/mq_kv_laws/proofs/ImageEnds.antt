@@ -20,7 +20,7 @@ use Rattle.mq_state_laws.proofs.JournalTops.{shows_low}
 use Rattle.mq_state_laws.specs.Parts.{Parts, least_marks, state_with}
 use Rattle.mq_journal.specs.Numbers.{Seat, Shared, Start}
 use Rattle.mq_journal.specs.Values.{side_values}
-use Rattle.mq_kv.proofs.OpeningState.{map-at}
+use Rattle.mq_kv.proofs.OpeningStore.{map-at}
 use Rattle.mq_kv.specs.Opening.{IsOpenedOver, store_map}
 use Rattle.mq_kv_entries.specs.Group.{store_group}
 use Rattle.mq_kv_entries.specs.declared.entry.KvEntry.{KvEntry}

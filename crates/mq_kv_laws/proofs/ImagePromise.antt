@@ -22,7 +22,7 @@ use Rattle.mq_kv_text.specs.declared.report.GroupReport.TheVariants.{Off}
 -- a group that was cut off is reported so
 told-off : (g : Geometry) (p last : Point) (groups : List (List KvOp)) (reports : List GroupReport) (off : Option (List KvOp)) → AreTold g p groups reports off last → off ≢ None → Contains reports Off
 told-off g p last _ _ _ (whole _) some = absurd (some refl)
-told-off g p last _ _ _ (cut_off _ ops groups) some = cons-here Off [] Off refl
+told-off g p last _ _ _ (cut_off _ ops groups count writes few) some = cons-here Off [] Off refl
 told-off g p last _ _ _ (next _ q _ ops groups r reports off one more) some = cons-there r reports Off (told-off g q last groups reports off more some)
 
 -- the newest point is behind the groups that were told of, or behind the one that was cut off

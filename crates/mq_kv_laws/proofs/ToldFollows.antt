@@ -2,7 +2,7 @@
 use Rattle.std.proofs.Common.{◌≡◌, ◌⊎◌, ℕ, suc, ◌+◌, ◌<◌, ◌≤◌, Bool, true, false, List, [], ◌∷◌, length, inl, inr, refl, sym, ap, subst, ◌∙◌, arith}
 use Rattle.std.specs.Prelude.{Option, Some, None}
 use Rattle.mq_blocks.specs.Drive.{PortState}
-use Rattle.mq_blocks.specs.Geometry.{meta_of}
+use Rattle.mq_blocks.specs.Geometry.{meta_of, write_limit}
 use Rattle.mq_blocks.specs.declared.geometry.Geometry.{Geometry}
 use Rattle.mq_drive.specs.Steps.{PortFault}
 use Rattle.mq_drive.specs.declared.port.Port.{Ghosts}
@@ -28,7 +28,7 @@ use Rattle.mq_turns.specs.Lists.{Each}
 use Rattle.mq_kv_laws.specs.Trails.{AreOfFirst, FollowsTold, IsNewest, IsPointAt}
 use Rattle.mq_kv_laws.proofs.ToldLists.{noted, one-history}
 use Rattle.mq_kv_laws.proofs.ToldPlayed.{Came, Drew, Later, Looked, came, came_drew, came_large, came_off, came_off_drew, came_off_saw, came_saw, ended, later-groups, later-on, later-rested}
-use Rattle.mq_kv_laws.proofs.ToldSteps.{Commits, commit-at, drawn-all, drawn-at, looked-at}
+use Rattle.mq_kv_laws.proofs.ToldSteps.{Commits, commit-at, drawn-all, drawn-at, looked-at, waited-at}
 
 module _ {P : Type 0} (G : Ghosts P) (state : P → PortState) (faults : P → List PortFault) (g : Geometry) (ports : Ports P) (s : Standing) (o : Start P KvEntry G) (last : Seat P KvEntry G) (r : Ended P KvEntry G)
     (opened : IsOpenedOver state faults g ports s o) (run : HasRun state faults store_group o (last ∷ []) r) where
@@ -122,7 +122,7 @@ module _ {P : Type 0} (G : Ghosts P) (state : P → PortState) (faults : P → L
       }
 
   one-told : (ops : List KvOp) (calls : ℕ) (old new : Seat P KvEntry G) (report : GroupReport) (es : List KvEntry) (p : Point) → Calls state faults calls old new → Later state faults g new last → Stands es p old → Known p old
-      → Came g (call_by 0 calls true ops) old new report → is_off report ≡ false → Told ops p report new
+      → Came state faults g (call_by 0 calls true ops) old new report → is_off report ≡ false → Told ops p report new
   one-told ops calls old new _ es p is later st known (came_drew at replies d upto) on = synced-drew ops calls at replies old new es p later st d upto
   one-told ops calls old new _ es p is later st known (came_saw at replies l upto) on = synced-saw ops calls at replies old new es p is later st l upto
   one-told ops calls old new _ es p is later st known (came_large at replies count l more) on =
@@ -130,7 +130,7 @@ module _ {P : Type 0} (G : Ghosts P) (state : P → PortState) (faults : P → L
       record { es = es; q = p; told = too_large count x.1 more; stands = stands-on es p old new l.drawn st; known = known-on p old new is.goes.done known }
   one-told ops calls old new _ es p is later st known (came_off_drew at replies d) on = absurd (cc)
   one-told ops calls old new _ es p is later st known (came_off_saw at replies l) on = absurd (cc)
-  one-told ops calls old new _ es p is later st known (came_off rests) on = absurd (cc)
+  one-told ops calls old new _ es p is later st known (came_off w) on = absurd (cc)
 
   -- ---- the groups
 
@@ -156,40 +156,48 @@ module _ {P : Type 0} (G : Ghosts P) (state : P → PortState) (faults : P → L
     ends : ((newest ≡ end) × At es end) ⊎ Cut es end off newest
     known : Known end new
 
+  -- the group that was cut off drew nothing
+  off-rested : (ops : List KvOp) (groups : List (List KvOp)) (old new : Seat P KvEntry G) (es : List KvEntry) (p : Point) → old.reading.done ≤ new.reading.done → new.drawn ≡ old.drawn → Stands es p old → Known p old
+      → (count : ℕ) → Writes g p.map ops count → count ≤ write_limit g → Tells (ops ∷ groups) (Off ∷ []) p new
+  off-rested ops groups old new es p goes same st known count writes few =
+      record { off = Some ops; end = p; newest = p; told = cut_off p ops groups count writes few; es = es; drawn = same ∙ st.drawn; own = st.own; ends = inl (refl, st.at); known = known-on p old new goes known }
+
   off-told : (ops : List KvOp) (groups : List (List KvOp)) (calls : ℕ) (old new : Seat P KvEntry G) (report : GroupReport) (es : List KvEntry) (p : Point) → report ≡ Off
-      → Calls state faults calls old new → Later state faults g new last → Stands es p old → Known p old → Came g (call_by 0 calls true ops) old new report → Tells (ops ∷ groups) (Off ∷ []) p new
-  off-told ops groups calls old new _ es p off is later st known (came_off_drew at replies d) =
+      → old.opening ≡ Some K.opening → last.drawn ≡ new.drawn → Calls state faults calls old new → Later state faults g new last → Stands es p old → Known p old → Came state faults g (call_by 0 calls true ops) old new report → Tells (ops ∷ groups) (Off ∷ []) p new
+  off-told ops groups calls old new _ es p off opened_so over is later st known (came_off_drew at replies d) =
       let x = drew-at ops calls at replies old new es p later st d in
       record {
         off = Some ops;
         end = p;
         newest = x.0.q;
-        told = cut_off p ops groups;
+        told = cut_off p ops groups x.0.commit.count x.0.commit.writes x.0.commit.few;
         es = d.entry ∷ es;
         drawn = x.2.drawn;
         own = x.2.own;
         ends = inr (record { ops = ops; off_is = refl; entry = d.entry; before = es; log = refl; at = st.at; commit = x.0.commit; behind = x.2.at });
         known = known-on p old new is.goes.done known;
       }
-  off-told ops groups calls old new _ es p off is later st known (came_off_saw at replies l) =
-      record { off = Some ops; end = p; newest = p; told = cut_off p ops groups; es = es; drawn = l.drawn ∙ st.drawn; own = st.own; ends = inl (refl, st.at); known = known-on p old new is.goes.done known }
-  off-told ops groups calls old new _ es p off is later st known (came_off rests) =
-      record { off = Some ops; end = p; newest = p; told = cut_off p ops groups; es = es; drawn = rests.drawn ∙ st.drawn; own = st.own; ends = inl (refl, st.at); known = known-on p old new is.goes.done known }
-  off-told ops groups calls old new _ es p off is later st known (came_drew at replies d upto) = absurd (cc)
-  off-told ops groups calls old new _ es p off is later st known (came_saw at replies l upto) = absurd (cc)
-  off-told ops groups calls old new _ es p off is later st known (came_large at replies count l more) = absurd (cc)
+  off-told ops groups calls old new _ es p off opened_so over is later st known (came_off_saw at replies l) =
+      let x = looked ops calls at 0 replies old new es p is later st l in
+      off-rested ops groups old new es p is.goes.done l.drawn st known 0 x.1 (omega arith)
+  off-told ops groups calls old new _ es p off opened_so over is later st known (came_off w) =
+      let x = waited-at G state faults g ports s o last r opened run es p ops calls old new opened_so st.drawn over later st.at w in
+      off-rested ops groups old new es p is.goes.done w.rests.drawn st known x.0 x.1 x.2
+  off-told ops groups calls old new _ es p off opened_so over is later st known (came_drew at replies d upto) = absurd (cc)
+  off-told ops groups calls old new _ es p off opened_so over is later st known (came_saw at replies l upto) = absurd (cc)
+  off-told ops groups calls old new _ es p off opened_so over is later st known (came_large at replies count l more) = absurd (cc)
 
   all-told : (groups : List (List KvOp)) (reports : List GroupReport) (old new : Seat P KvEntry G) (es : List KvEntry) (p : Point) → ArePlayed state faults g 0 groups reports old new
-      → Later state faults g new last → Stands es p old → Known p old → Tells groups reports p new
-  all-told _ _ old _ es p played_whole later st known =
+      → old.opening ≡ Some K.opening → last.drawn ≡ new.drawn → Later state faults g new last → Stands es p old → Known p old → Tells groups reports p new
+  all-told _ _ old _ es p played_whole opened_so over later st known =
       record { off = None; end = p; newest = p; told = whole p; es = es; drawn = st.drawn; own = st.own; ends = inl (refl, st.at); known = known }
-  all-told _ _ old new es p (played_off {ops = ops} {groups = groups} played) later st known =
+  all-told _ _ old new es p (played_off {ops = ops} {groups = groups} played) opened_so over later st known =
       let c = came state faults g ops old new Off played in
-      off-told ops groups c.0 old new Off es p refl c.1 later st known c.2
-  all-told _ _ old new es p (played_next {ops = ops} {groups = groups} {r = report} {reports = reports} {mid = mid} played on rest) later st known =
+      off-told ops groups c.0 old new Off es p refl opened_so over c.1 later st known c.2
+  all-told _ _ old new es p (played_next {ops = ops} {groups = groups} {r = report} {reports = reports} {mid = mid} played on rest) opened_so over later st known =
       let c = came state faults g ops old mid report played in
       let here = one-told ops c.0 old mid report es p c.1 (later-on state faults g mid new last (later-groups state faults g groups reports mid new rest) later) st known c.2 on in
-      let t = all-told groups reports mid new here.es here.q rest later here.stands here.known in
+      let t = all-told groups reports mid new here.es here.q rest (c.1.opening ∙ opened_so) over later here.stands here.known in
       record {
         off = t.off;
         end = t.end;
@@ -237,9 +245,10 @@ module _ {P : Type 0} (G : Ghosts P) (state : P → PortState) (faults : P → L
   pub follows : (first : Point) → IsPointAt state faults g here-known [] first → Follows first
   follows first at =
       let rests = ended state faults g finish e.finished run.between run.last run.ended in
-      let later = later-rested state faults g run.between run.last rests.0 rests.1 in
+      let later = later-rested state faults g run.between run.last rests.0 rests.1 rests.2 in
       let number = at.number in
-      let t = all-told G state faults g ports s o run.last run.left opened run.closed groups e.reports.items (fresh o 0) run.between [] first run.played later
+      let t = all-told G state faults g ports s o run.last run.left opened run.closed groups e.reports.items (fresh o 0) run.between [] first run.played
+      (ap (λ (x : Start P KvEntry G). Some x) (sym run.closed.end.opening)) rests.0.drawn later
       (record { drawn = refl; at = at; own = tt }) (inr (omega (arith, number))) in
       let all : t.es ≡ here-known.log = one-history here-known.opening.base t.es here-known.log (sym t.drawn ∙ (sym rests.0.drawn ∙ drawn-all G state faults g ports s o run.last run.left opened run.closed)) in
       record {
@@ -251,6 +260,6 @@ module _ {P : Type 0} (G : Ghosts P) (state : P → PortState) (faults : P → L
         follows = record {
           own = subst (λ (xs : List KvEntry). AreOfFirst xs) all t.own;
           newest_is = newest-is t.es t.end t.newest t.off all t.ends;
-          done = known-on G state faults g ports s o run.last run.left opened run.closed t.end run.between run.last rests.1 t.known;
+          done = known-on G state faults g ports s o run.last run.left opened run.closed t.end run.between run.last rests.2 t.known;
         };
       }

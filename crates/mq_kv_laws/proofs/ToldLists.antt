@@ -78,6 +78,27 @@ module _ {E : Type 0} where
         absurd (omega (arith, one, none))
   ]
 
+  below-noted : (base : ℕ) (es : List E) (n : ℕ) → base + length es < n → Each (λ d. d.0 < n) (noted base es)
+  below-noted base [] n high = tt
+  below-noted base (e ∷ es) n high = (omega (arith, high), below-noted base es n (omega (arith, high)))
+
+  -- A history that is not longer than another, and has each entry of it with its number, is that one.
+  pub one-log : (base : ℕ) (log es : List E) → length log ≤ length es → Each (λ d. HasNumberAt base log d.0 d.1) (noted base es) → log ≡ es
+  one-log base [] [] short each = refl
+  one-log base (x ∷ log) [] short each = absurd (omega (arith, short))
+  one-log base [] (e ∷ es) short each = absurd each.0
+  one-log base (x ∷ log) (e ∷ es) short each = elim each.0 [
+    | inl top ↦
+        let number : suc (base + length es) ≡ suc (base + length log) = top.0 in
+        let rest = one-log base log es (omega (arith, short))
+        (each_both (λ (d : ℕ × E). d.0 < suc (base + length es)) (λ (d : ℕ × E). HasNumberAt base (x ∷ log) d.0 d.1) (λ (d : ℕ × E). HasNumberAt base log d.0 d.1)
+        (λ d low at. older-number base x log d at (omega (arith, low, number))) (noted base es) (below-noted base es (suc (base + length es)) (omega arith)) each.1) in
+        ap (λ (y : E). y ∷ log) top.1 ∙ ap (λ (ys : List E). e ∷ ys) rest
+    | inr lower ↦
+        let top : suc (base + length es) ≤ base + length log = (at_bounds base log (suc (base + length es)) e lower).1 in
+        absurd (omega (arith, short, top))
+  ]
+
   -- ---- what was drawn later
 
   length-noted : (base : ℕ) (es : List E) → length (noted base es) ≡ length es

@@ -1,11 +1,12 @@
 -- What a group that was drawn or read comes to at its point of the history.
-use Rattle.std.proofs.Common.{◌≡◌, ◌⊎◌, ℕ, suc, ◌+◌, ◌<◌, ◌≤◌, List, [], ◌∷◌, ◌++◌, length, inl, inr, refl, sym, ap, subst, ◌∙◌, arith}
+use Rattle.std.proofs.Common.{◌≡◌, ◌⊎◌, ℕ, suc, ◌+◌, ◌<◌, ◌≤◌, true, List, [], ◌∷◌, ◌++◌, length, inl, inr, refl, sym, ap, subst, ◌∙◌, arith}
+use Rattle.std.specs.Prelude.{Some}
 use Rattle.mq_blocks.specs.Blocks.{content}
 use Rattle.mq_blocks.specs.Drive.{PortState}
 use Rattle.mq_blocks.specs.Geometry.{meta_of, write_limit}
 use Rattle.mq_blocks.specs.Machine.{Map, after}
 use Rattle.mq_blocks.specs.declared.geometry.Geometry.{Geometry}
-use Rattle.mq_desk_laws.specs.Rule.{IsLegalHistory, geometry_of, history, history_of, numbered, shape_of, start_of}
+use Rattle.mq_desk_laws.specs.Rule.{IsLegalHistory, geometry_of, history, history_of, map_now, numbered, shape_of, start_of}
 use Rattle.mq_desk_laws.specs.Values.{Values}
 use Rattle.mq_drive.specs.Steps.{PortFault}
 use Rattle.mq_drive.specs.declared.port.Port.{Ghosts}
@@ -17,6 +18,7 @@ use Rattle.mq_kv.specs.Opening.{IsOpenedOver}
 use Rattle.mq_kv.proofs.Histories.{legal-older}
 use Rattle.mq_kv_buckets.specs.Store.{map_after_ops, replies_on}
 use Rattle.mq_kv_buckets.specs.declared.operation.KvOp.{KvOp}
+use Rattle.mq_kv_entries.specs.Calls.{IsDoneOnMap}
 use Rattle.mq_kv_entries.specs.Entries.{Does, RanUndrawn, tx_of, written_by}
 use Rattle.mq_kv_entries.specs.Group.{store_group}
 use Rattle.mq_kv_entries.specs.declared.entry.KvEntry.{KvEntry}
@@ -28,19 +30,21 @@ use Rattle.mq_ledger.specs.declared.tx.Tx.{Tx}
 use Rattle.mq_queue_side.specs.declared.root.Root.{Root}
 use Rattle.mq_queue_side.specs.declared.side.QueueSide.{QueueSide}
 use Rattle.mq_recover.specs.declared.standing.Standing.{Standing}
+use Rattle.mq_sessions.specs.Calls.{call_by}
 use Rattle.mq_tie.proofs.Legal.{upto-hist}
 use Rattle.mq_tie.specs.Closed.{HasRun}
 use Rattle.mq_tie.specs.Legal.{IsRead}
 use Rattle.mq_tie.specs.declared.ended.Ended.{Ended}
 use Rattle.mq_turns.specs.Desk.{DrawAfterDraw, DrawAfterRead, ReadAfterDraw}
 use Rattle.mq_turns.specs.Lists.{Each, Sorted}
-use Rattle.mq_turns.specs.Meaning.{newest}
+use Rattle.mq_turns.specs.Meaning.{HasNumberAt, newest}
 use Rattle.mq_turns.proofs.Lists.{each_both, each_map}
 use Rattle.mq_kv_laws.specs.Trails.{IsPointAt}
 use Rattle.mq_kv_laws.proofs.ToldEntries.{entries-are}
-use Rattle.mq_kv_laws.proofs.ToldLists.{all-noted, below-first, drawn-last, each-left, each-right, noted, one-history, split}
-use Rattle.mq_kv_laws.proofs.ToldMaps.{Alike, after-alike, difference-alike, replies-alike}
-use Rattle.mq_kv_laws.proofs.ToldPlayed.{Later}
+use Rattle.mq_kv_laws.proofs.ToldLists.{all-noted, below-first, drawn-last, each-left, each-right, noted, one-history, one-log, split}
+use Rattle.mq_kv.proofs.AlikeBuckets.{Alike, after-alike, replies-alike}
+use Rattle.mq_kv_laws.proofs.ToldMaps.{difference-alike}
+use Rattle.mq_kv_laws.proofs.ToldPlayed.{Later, Waited}
 
 -- what a transaction makes of a map does not depend on its number
 after-numbered : (m : Map) (n : ℕ) (t : Tx) (b : ℕ) → after m (change_of (numbered n t)) b ≡ after m (change_of t) b
@@ -226,3 +230,38 @@ module _ {P : Type 0} (G : Ghosts P) (state : P → PortState) (faults : P → L
       let b = beginning v later in
       let one = one-history base es b.1 (sym was ∙ b.3) in
       (number ∙ sym at.number, read-at b.0 es e (newest L) count p ops (b.2 ∙ ap (λ (xs : List KvEntry). b.0 ++ xs) (sym one)) at same writes number (is-read v e L reads later read))
+
+  -- ---- what was known when it drew and read nothing
+
+  -- no number that the session has seen is above the last one
+  seen-low : last.seen ≤ newest K
+  seen-low = run.end.seen.0
+
+  same-opening : (L : Shared P KvEntry G) (v : Seat P KvEntry G) → v.opening ≡ Some K.opening → v.opening ≡ Some L.opening → L.opening ≡ K.opening
+  same-opening L v own other = let same : Some L.opening ≡ Some K.opening = sym other ∙ own in cc
+
+  -- what it has seen of the history since, it drew
+  known-log : (es : List KvEntry) (L : Shared P KvEntry G) (v : Seat P KvEntry G) → v.drawn ≡ noted base es → K.log ≡ es → L.opening ≡ K.opening → Each (λ d. HasNumberAt L.opening.base L.log d.0 d.1) v.drawn → newest L ≤ newest K → L.log ≡ es
+  known-log es L v was all opening drew low =
+      let first : L.opening.base ≡ base = ap (λ (x : Start P KvEntry G). x.base) opening in
+      let long : length K.log ≡ length es = ap length all in
+      one-log base L.log es (omega (arith, first, long, low))
+      (subst (λ (n : ℕ). Each (λ (d : ℕ × KvEntry). HasNumberAt n L.log d.0 d.1) (noted base es)) first (subst (Each (λ (d : ℕ × KvEntry). HasNumberAt L.opening.base L.log d.0 d.1)) was drew))
+
+  map-known : (es : List KvEntry) (L : Shared P KvEntry G) → L.opening ≡ K.opening → L.log ≡ es → map_now values store_group L ≡ map-of es
+  map-known es L opening log = λ i. map_after (start_of values store_group (opening i)) (history values store_group (opening i).base (log i))
+
+  -- A group that was to be drawn by what was known then, after which nothing was drawn: it writes so on the buckets of
+  -- the point, and not too much.
+  pub waited-at : (es : List KvEntry) (p : Point) (ops : List KvOp) (calls : ℕ) (old new : Seat P KvEntry G) → old.opening ≡ Some K.opening → old.drawn ≡ noted base es → last.drawn ≡ new.drawn → Later state faults g new last
+      → IsPointAt state faults g K es p → Waited state faults g (call_by 0 calls true ops) old new → (count : ℕ) × Writes g p.map ops count × (count ≤ write_limit g)
+  waited-at es p ops calls old new opened_so was over later at w =
+      let all : K.log ≡ es = one-history base K.log es (sym drawn-all ∙ (over ∙ (w.rests.drawn ∙ was))) in
+      let opening = same-opening w.known old opened_so w.from.opening in
+      let seen = w.seen in
+      let on = later.seen in
+      let low = seen-low in
+      let log = known-log es w.known old was all opening w.from.drew (omega (arith, seen, on, low)) in
+      let writes = w.done.done.writes.items in
+      let does : IsDoneOnMap g (map-of es) ops w.done = subst (λ (m : Map). IsDoneOnMap g m ops w.done) (map-known es w.known opening log) w.is.does in
+      (length writes, (writes, difference-alike g (map-of es) p.map ops writes (alike-at es p at) does.is.writes_are, refl), w.is.few)

@@ -69,8 +69,8 @@ read-leaves g p ops none formed =
 pub groups-leave : (g : Geometry) (p last : Point) (groups : List (List KvOp)) (reports : List GroupReport) (off : Option (List KvOp)) → AreTold g p groups reports off last → AreBuckets (meta_of g) p.map
     → AreBuckets (meta_of g) last.map × LeaveStore (store_at g p) groups reports (store_at g last)
 groups-leave g p _ _ _ _ (whole _) formed = (formed, λ key. refl)
-groups-leave g p _ _ _ _ (cut_off _ ops []) formed = (formed, λ key. refl)
-groups-leave g p _ _ _ _ (cut_off _ ops (more ∷ groups)) formed = (formed, λ key. refl)
+groups-leave g p _ _ _ _ (cut_off _ ops [] count writes few) formed = (formed, λ key. refl)
+groups-leave g p _ _ _ _ (cut_off _ ops (more ∷ groups) count writes few) formed = (formed, λ key. refl)
 groups-leave g p last _ _ off (next _ q _ ops groups _ reports _ (committed _ is) rest) formed =
     let here = commit-leaves g p q ops is formed in
     let there = groups-leave g q last groups reports off rest here.0 in

@@ -55,12 +55,12 @@ pub data IsTold (g : Geometry) (p : Point) (ops : List KvOp) : GroupReport → P
 -- ---- groups
 
 -- What is reported of groups, with the point behind those that are not cut off. Each group has its report, up to
--- one that was cut off by the power, if there is one. That ends the reports.
+-- one that was cut off by the power, if there is one. That one is not too large, and it ends the reports.
 pub data AreTold (g : Geometry) : Point → (groups : List (List KvOp)) → List GroupReport
     → (off : Option (List KvOp)) → Point → Type 0 where
   whole : (p : Point) → AreTold g p [] [] None p
-  cut_off : (p : Point) (ops : List KvOp) (groups : List (List KvOp))
-      → AreTold g p (ops ∷ groups) (Off ∷ []) (Some ops) p
+  cut_off : (p : Point) (ops : List KvOp) (groups : List (List KvOp)) (count : ℕ) → Writes g p.map ops count
+      → count ≤ write_limit g → AreTold g p (ops ∷ groups) (Off ∷ []) (Some ops) p
   next : (p q last : Point) (ops : List KvOp) (groups : List (List KvOp)) (r : GroupReport)
       (reports : List GroupReport) (off : Option (List KvOp))
       → IsTold g p ops r q → AreTold g q groups reports off last

@@ -35,11 +35,12 @@ is_off (Large count) = false
 is_off Off = true
 
 module _ {P : Type 0} {G : Ghosts P} (state : P → PortState) (faults : P → List PortFault) where
-  -- A call of the session: all that it drew and read before is of its earlier calls, and what it knows of numbers
-  -- does not fall.
+  -- A call of the session: all that it drew and read before is of its earlier calls, what it knows of numbers does
+  -- not fall, and it stays at the desk that was opened so.
   pub record Calls (calls : ℕ) (old new : Seat P KvEntry G) : Type 0 where
     pub called : HasCalled store_group calls old
     pub goes : GoesOn old new
+    pub opening : new.opening ≡ old.opening
 
   -- The session asked the group as a durable one, and this is reported of the answer: it was done; it is too
   -- large; or a port refused.
