@@ -37,7 +37,7 @@ impl Model for Descriptor {
 }
 
 /// What is known of the place of a descriptor before it is read.
-#[derive(Clone, Copy, Debug, PartialEq, Eq)]
+#[derive(Clone, Copy, PartialEq, Eq)]
 pub enum PlaceIs {
     /// The place modulo the area is this one.
     Index(u32),
@@ -46,7 +46,7 @@ pub enum PlaceIs {
 }
 
 /// What is known of a descriptor before it is read.
-#[derive(Clone, Copy, Debug, PartialEq, Eq)]
+#[derive(Clone, Copy, PartialEq, Eq)]
 pub struct Expect {
     pub queue: QueueNo,
     pub number: TxNo,

@@ -3,7 +3,7 @@ use mq_blocks::OutOfMemory;
 
 /// Why a block is not the descriptor that is expected: the first test that failed, and what was
 /// found there.
-#[derive(Clone, Copy, Debug, PartialEq, Eq)]
+#[derive(Clone, Copy, PartialEq, Eq)]
 pub enum DescriptorRefusal {
     /// The first eight bytes are not the magic number.
     Magic { found: u64 },

@@ -7,7 +7,7 @@ use mq_blocks::OutOfMemory;
 use std::alloc::{AllocError, AllocFailed};
 
 /// Why a line is not read.
-#[derive(Clone, Copy, Debug, PartialEq, Eq)]
+#[derive(Clone, Copy, PartialEq, Eq)]
 pub enum Misread {
     /// The line is not in its form.
     Form,
@@ -16,7 +16,7 @@ pub enum Misread {
 }
 
 /// Why a trace is not read.
-#[derive(Clone, Copy, Debug, PartialEq, Eq)]
+#[derive(Clone, Copy, PartialEq, Eq)]
 pub enum TraceRefusal {
     /// The first line that is not in its form, counted from 1.
     Line { line: u64 },

@@ -9,7 +9,7 @@ use crate::refusal::BlockTextCause;
 use mq_blocks::BlockNo;
 
 /// What a line does with one block.
-#[derive(Clone, Copy, Debug, PartialEq, Eq)]
+#[derive(Clone, Copy, PartialEq, Eq)]
 pub enum BlockItem {
     /// Every byte of the block is set to this one.
     Set(BlockNo, u8),

@@ -6,7 +6,7 @@ use mq_blocks::OutOfMemory;
 use std::alloc::{AllocError, AllocFailed};
 
 /// Why a line is not read.
-#[derive(Clone, Copy, Debug, PartialEq, Eq)]
+#[derive(Clone, Copy, PartialEq, Eq)]
 pub enum BlockTextCause {
     /// The line has no bytes.
     Empty,
@@ -38,7 +38,7 @@ impl BlockTextCause {
 }
 
 /// Why a block text is not read.
-#[derive(Clone, Copy, Debug, PartialEq, Eq)]
+#[derive(Clone, Copy, PartialEq, Eq)]
 pub enum BlockTextRefusal {
     /// The first line that is refused, counted from 1, and its first cause.
     At { line: u32, cause: BlockTextCause },

@@ -8,7 +8,7 @@ use std::alloc::{AllocError, AllocFailed, Global};
 use std::marker::Model;
 
 /// Memory that a call needed could not be allocated.
-#[derive(Clone, Copy, Debug, PartialEq, Eq, Hash)]
+#[derive(Clone, Copy, PartialEq, Eq)]
 pub struct OutOfMemory;
 
 impl From<AllocError> for OutOfMemory {

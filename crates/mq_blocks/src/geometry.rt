@@ -5,7 +5,7 @@ use crate::{BlockNo, LIST_LIMIT, Lba, QueueNo};
 
 /// The shape of a drive: its queues, the blocks of each queue's journal area, and its home blocks,
 /// which are a metadata region and one zone for each queue.
-#[derive(Clone, Copy, Debug, PartialEq, Eq)]
+#[derive(Clone, Copy, PartialEq, Eq)]
 pub struct Geometry {
     queues: u32,
     area: u32,
@@ -21,7 +21,7 @@ pub struct Geometry {
 }
 
 /// Why four numbers are not a geometry: the first that is out of its range.
-#[derive(Clone, Copy, Debug, PartialEq, Eq)]
+#[derive(Clone, Copy, PartialEq, Eq)]
 pub enum GeometryRefusal {
     Queues { found: u32 },
     Area { found: u32 },

@@ -2,7 +2,7 @@
 use std::marker::Model;
 
 /// The number of a home block, which is a block of the file system's own range, counted from 0.
-#[derive(Clone, Copy, Debug, PartialEq, Eq, Hash, PartialOrd, Ord)]
+#[derive(Clone, Copy, PartialEq, Eq, PartialOrd, Ord)]
 pub struct BlockNo(pub u32);
 
 impl Model for BlockNo {
@@ -18,7 +18,7 @@ impl Model for BlockNo {
 }
 
 /// The address of a logical block of namespace 1, which has 4,096 bytes.
-#[derive(Clone, Copy, Debug, PartialEq, Eq, Hash, PartialOrd, Ord)]
+#[derive(Clone, Copy, PartialEq, Eq, PartialOrd, Ord)]
 pub struct Lba(pub u32);
 
 impl Model for Lba {
@@ -34,7 +34,7 @@ impl Model for Lba {
 }
 
 /// The number of a queue, counted from 0.
-#[derive(Clone, Copy, Debug, PartialEq, Eq, Hash, PartialOrd, Ord)]
+#[derive(Clone, Copy, PartialEq, Eq, PartialOrd, Ord)]
 pub struct QueueNo(pub u32);
 
 impl Model for QueueNo {
@@ -50,7 +50,7 @@ impl Model for QueueNo {
 }
 
 /// The number of a transaction, over all queues. The first after a base is the base plus 1.
-#[derive(Clone, Copy, Debug, PartialEq, Eq, Hash, PartialOrd, Ord)]
+#[derive(Clone, Copy, PartialEq, Eq, PartialOrd, Ord)]
 pub struct TxNo(pub u64);
 
 impl Model for TxNo {

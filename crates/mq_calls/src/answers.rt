@@ -15,7 +15,7 @@ pub struct Answer {
 }
 
 /// Why a group was refused.
-#[derive(Clone, Copy, Debug, PartialEq, Eq)]
+#[derive(Clone, Copy, PartialEq, Eq)]
 pub struct Refusal {
     pub cause: CallCause,
     /// The number that the group had drawn. Its transaction may or may not survive a power cut.
@@ -23,7 +23,7 @@ pub struct Refusal {
 }
 
 /// The cause of a refusal.
-#[derive(Clone, Copy, Debug, PartialEq, Eq)]
+#[derive(Clone, Copy, PartialEq, Eq)]
 pub enum CallCause {
     OutOfMemory,
     /// The group writes more blocks than one transaction may.

@@ -82,7 +82,7 @@ pub enum Shown {
 }
 
 /// Why a line is not followed.
-#[derive(Debug, Drop, PartialEq)]
+#[derive(Drop, PartialEq)]
 pub enum LineRefusal {
     /// Its first word is none of a table's.
     Verb,

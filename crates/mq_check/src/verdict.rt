@@ -6,7 +6,7 @@ use mq_tree::CorruptCause;
 pub type CheckCause = CorruptCause;
 
 /// What a check of home blocks finds.
-#[derive(Clone, Copy, Debug, PartialEq, Eq)]
+#[derive(Clone, Copy, PartialEq, Eq)]
 pub enum Verdict {
     /// The blocks have a tree, with this many directories, the root among them, this many files, each counted once
     /// whatever names it has, and this many blocks of zones that are used.

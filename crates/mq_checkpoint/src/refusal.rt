@@ -3,7 +3,7 @@ use mq_blocks::OutOfMemory;
 use mq_queue_side::Cause;
 
 /// Why a checkpoint did not raise the base.
-#[derive(Clone, Copy, Debug, PartialEq, Eq)]
+#[derive(Clone, Copy, PartialEq, Eq)]
 pub enum CheckpointRefusal {
     /// There was no memory for the copy of a block.
     OutOfMemory,

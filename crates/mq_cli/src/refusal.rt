@@ -2,7 +2,7 @@
 use std::alloc::AllocError;
 
 /// Why words are not read.
-#[derive(Clone, Copy, Debug, PartialEq, Eq)]
+#[derive(Clone, Copy, PartialEq, Eq)]
 pub enum WordsRefusal {
     /// The words are no command.
     Unknown,

@@ -23,7 +23,7 @@ use mq_pmr::PmrQueue;
 use std::alloc::Global;
 
 /// Why a text was not committed whole.
-#[derive(Clone, Copy, Debug, PartialEq, Eq)]
+#[derive(Clone, Copy, PartialEq, Eq)]
 pub enum TextRefusal {
     Off,
     /// A command ended with an error.

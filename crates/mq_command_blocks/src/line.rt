@@ -12,7 +12,7 @@ use mq_drive::{Off, Port};
 use mq_pmr::{PmrQueue, Took};
 
 /// Why a transaction was not done.
-#[derive(Clone, Copy, Debug, PartialEq, Eq)]
+#[derive(Clone, Copy, PartialEq, Eq)]
 pub enum Refusal {
     Off,
     /// A command of the transaction ended with an error.

@@ -17,7 +17,7 @@ use mq_outside::{Files, Sink};
 use std::alloc::Global;
 
 /// The four numbers of a geometry, which may be out of range.
-#[derive(Clone, Copy, Debug, PartialEq, Eq)]
+#[derive(Clone, Copy, PartialEq, Eq)]
 pub struct Numbers {
     pub queues: u32,
     pub area: u32,

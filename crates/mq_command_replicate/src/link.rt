@@ -9,7 +9,7 @@ use rand_pcg::Lcg128Xsl64;
 const LOSSES_IN_A_ROW: u32 = 64;
 
 /// How often it comes through what is sent.
-#[derive(Clone, Copy, Debug, PartialEq, Eq)]
+#[derive(Clone, Copy, PartialEq, Eq)]
 pub enum Arrival {
     Once,
     Twice,

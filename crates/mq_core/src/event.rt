@@ -40,7 +40,7 @@ pub enum Event {
 }
 
 /// Why an event does not happen.
-#[derive(Clone, Copy, Debug, PartialEq, Eq)]
+#[derive(Clone, Copy, PartialEq, Eq)]
 pub enum CoreRefusal {
     /// The event at this index of a list is not allowed in the state that it meets. For a single
     /// event the index is 0.

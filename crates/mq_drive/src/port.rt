@@ -13,11 +13,11 @@ use mq_blocks::{Block, Lba};
 use mq_nvme::{Completion, Entry};
 
 /// The power is off: the event did not happen. A home write may have begun.
-#[derive(Clone, Copy, Debug, PartialEq, Eq)]
+#[derive(Clone, Copy, PartialEq, Eq)]
 pub struct Off;
 
 /// What one step did.
-#[derive(Clone, Copy, Debug, PartialEq, Eq)]
+#[derive(Clone, Copy, PartialEq, Eq)]
 pub enum Step {
     /// Nothing is posted.
     Idle,
@@ -26,7 +26,7 @@ pub enum Step {
 }
 
 /// How a home write ended.
-#[derive(Clone, Copy, Debug, PartialEq, Eq)]
+#[derive(Clone, Copy, PartialEq, Eq)]
 pub enum HomeStep {
     Done,
     Error { status: u16 },

@@ -26,7 +26,7 @@ struct Pair {
 }
 
 /// Why there is no answer.
-#[derive(Debug, Drop)]
+#[derive(Drop)]
 enum Trouble {
     OutOfMemory,
     Recovery(RecoverRefusal),
@@ -112,7 +112,8 @@ fn main(rt: HostRuntime) -> io::Result<()> {
                     pair.prefix
                 )?;
             }
-            Err(trouble) => println!(rt; "cut after event {events}: {trouble:?}")?,
+            Err(Trouble::OutOfMemory) => println!(rt; "cut after event {events}: out of memory")?,
+            Err(Trouble::Recovery(_)) => println!(rt; "cut after event {events}: refused image")?,
         }
     }
     Ok(())

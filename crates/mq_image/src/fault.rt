@@ -3,7 +3,7 @@ use mq_blocks::{GeometryRefusal, OutOfMemory};
 use std::alloc::{AllocError, AllocFailed};
 
 /// Why bytes are not the file of an image: the first test that failed, and what was found there.
-#[derive(Clone, Copy, Debug, PartialEq, Eq)]
+#[derive(Clone, Copy, PartialEq, Eq)]
 pub enum FileFault {
     /// The file is too short for its parts, as far as their lengths are known.
     Short { need: u64, have: u64 },

@@ -4,7 +4,7 @@ use mq_recover::ImageFault;
 use mq_tree::{CorruptCause, MountRefusal};
 
 /// Why no volume stands on an image.
-#[derive(Clone, Copy, Debug, PartialEq, Eq)]
+#[derive(Clone, Copy, PartialEq, Eq)]
 pub enum StandingRefusal {
     /// The image is not readable.
     Image(ImageFault),

@@ -65,7 +65,7 @@ pub enum KvReply {
 }
 
 /// Why an operation was refused. It then changed nothing.
-#[derive(Clone, Copy, Debug, PartialEq, Eq)]
+#[derive(Clone, Copy, PartialEq, Eq)]
 pub enum KvFault {
     /// The key has no bytes, or more than 255.
     KeySize,

@@ -10,7 +10,7 @@ use std::cmp::Ordering;
 
 /// The place of a key's record in a bucket: where it begins, or would begin, and how many bytes it has, which
 /// are none where the key isn't there.
-#[derive(Clone, Copy, Debug, PartialEq, Eq)]
+#[derive(Clone, Copy, PartialEq, Eq)]
 pub struct Spot {
     pub at: usize,
     pub size: usize,

@@ -20,7 +20,7 @@ use std::alloc::Global;
 const BUCKET_SIZE: usize = 4096;
 
 /// Where the record of a key is in its bucket, or would be, and where the records end.
-#[derive(Clone, Copy, Debug, PartialEq, Eq)]
+#[derive(Clone, Copy, PartialEq, Eq)]
 pub struct Place {
     pub spot: Spot,
     pub end: usize,

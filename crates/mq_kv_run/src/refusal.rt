@@ -3,7 +3,7 @@ use mq_blocks::{BlockNo, OutOfMemory};
 use mq_recover::ImageFault;
 
 /// Why no groups are run on an image.
-#[derive(Clone, Copy, Debug, PartialEq, Eq)]
+#[derive(Clone, Copy, PartialEq, Eq)]
 pub enum KvRunRefusal {
     /// The image is not readable, or its numbers are above the limit of a run.
     Image(ImageFault),

@@ -16,7 +16,7 @@ pub enum Misread {
 }
 
 /// Why a file of groups is not read.
-#[derive(Clone, Copy, Debug, PartialEq, Eq)]
+#[derive(Clone, Copy, PartialEq, Eq)]
 pub enum KvTextRefusal {
     /// The first line that is not in the form, counted from 1. Where the last `sync` is missing, it is the
     /// line after the last one.

@@ -31,7 +31,7 @@ pub enum GroupReport {
 }
 
 /// How a run ended.
-#[derive(Clone, Copy, Debug, PartialEq, Eq)]
+#[derive(Clone, Copy, PartialEq, Eq)]
 pub enum LastLine {
     /// Everything up to this number, which is the base, was written home.
     Clean(TxNo),

@@ -14,7 +14,7 @@ use mq_blocks::bytes::{put, u16_at, u32_at, u64_at};
 const SIZE: usize = 128;
 
 /// The fields of an inode.
-#[derive(Clone, Copy, Debug, PartialEq, Eq)]
+#[derive(Clone, Copy, PartialEq, Eq)]
 pub struct Inode {
     /// 0 for a free inode, 1 for a file, 2 for a directory.
     pub kind: u8,

@@ -5,7 +5,7 @@ ghost use Rattle.mq_layout.specs.Fields.{Finds, field, nonzero, refused as refus
 use mq_blocks::bytes::u32_at;
 
 /// What is wrong with a field.
-#[derive(Clone, Copy, Debug, PartialEq, Eq)]
+#[derive(Clone, Copy, PartialEq, Eq)]
 pub enum LayoutCause {
     /// The first eight bytes of the superblock are not the magic number.
     Magic,
@@ -30,7 +30,7 @@ pub enum LayoutCause {
 }
 
 /// The first field that is wrong, in order of offset, and the offset of its first byte in the block.
-#[derive(Clone, Copy, Debug, PartialEq, Eq)]
+#[derive(Clone, Copy, PartialEq, Eq)]
 pub struct LayoutRefusal {
     pub cause: LayoutCause,
     pub offset: u32,

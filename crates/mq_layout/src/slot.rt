@@ -15,7 +15,7 @@ use mq_blocks::bytes::{put, u32_at};
 const SIZE: usize = 272;
 
 /// A used slot. Its name is the `length` bytes from offset `272 * at + 16` of the block.
-#[derive(Clone, Copy, Debug, PartialEq, Eq)]
+#[derive(Clone, Copy, PartialEq, Eq)]
 pub struct Slot {
     pub inode: u32,
     pub length: u8,

@@ -17,7 +17,7 @@ pub struct Row {
 }
 
 /// Where a transaction ends: the count after its entries on its queue.
-#[derive(Clone, Copy, Debug, PartialEq, Eq)]
+#[derive(Clone, Copy, PartialEq, Eq)]
 pub struct QueueEnd {
     pub queue: QueueNo,
     pub count: u64,

@@ -2,7 +2,7 @@
 use mq_blocks::{OutOfMemory, TxNo};
 
 /// Why a commit was not made, in the order in which the causes are looked for. All but the last draw nothing.
-#[derive(Clone, Copy, Debug, PartialEq, Eq)]
+#[derive(Clone, Copy, PartialEq, Eq)]
 pub enum LooseRefusal {
     /// The queue keeps the failure of this transaction.
     Stopped { tx: TxNo },

@@ -14,7 +14,7 @@ pub struct Running<'f> {
 }
 
 /// Why a line was not run to its end.
-#[derive(Clone, Copy, Debug, PartialEq, Eq)]
+#[derive(Clone, Copy, PartialEq, Eq)]
 pub enum Stop {
     /// The power went off.
     Off,

@@ -6,7 +6,7 @@ use mq_blocks::OutOfMemory;
 use std::alloc::{AllocError, AllocFailed};
 
 /// Why a text is refused.
-#[derive(Clone, Copy, Debug, PartialEq, Eq)]
+#[derive(Clone, Copy, PartialEq, Eq)]
 pub enum LooseTextRefusal {
     /// The first line that may not stand there, counted from 1.
     Line { line: u64 },

@@ -2,7 +2,7 @@
 use mq_blocks::TxNo;
 
 /// A notice of a transaction that was rung. The last notice has no number.
-#[derive(Clone, Copy, Debug, PartialEq, Eq)]
+#[derive(Clone, Copy, PartialEq, Eq)]
 pub struct Notice {
     pub index: u64,
     pub number: Option<TxNo>,

@@ -7,7 +7,7 @@ use crate::fields::{Ccid, Phase, SqHead, SqId, Status};
 use std::marker::Model;
 
 /// A completion queue entry (NVM Express 1.4, "Completion Queue Entry"): dwords 0 to 3.
-#[derive(Clone, Copy, Debug, PartialEq, Eq)]
+#[derive(Clone, Copy, PartialEq, Eq)]
 pub struct Completion {
     dwords: [u32; 4],
 }
@@ -62,7 +62,7 @@ impl Completion {
 }
 
 /// The content of the completion of a command.
-#[derive(Clone, Copy, Debug, PartialEq, Eq)]
+#[derive(Clone, Copy, PartialEq, Eq)]
 pub struct Ended {
     /// The submission queue's head.
     pub sq_head: u16,

@@ -6,7 +6,7 @@ use crate::fields::{ReqTxCommit, SlbaHigh, SlbaLow, TxHigh, TxLow};
 use std::marker::Model;
 
 /// A submission queue entry (NVM Express 1.4, "Submission Queue Entry"): command dwords 0 to 15.
-#[derive(Clone, Copy, Debug, PartialEq, Eq)]
+#[derive(Clone, Copy, PartialEq, Eq)]
 pub struct Entry {
     dwords: [u32; 16],
 }

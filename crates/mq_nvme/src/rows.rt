@@ -11,7 +11,7 @@ use crate::fields::{
 use crate::{Completion, Entry};
 
 /// A field of submission entries, by the name that it has in `fields`.
-#[derive(Clone, Copy, Debug, PartialEq, Eq)]
+#[derive(Clone, Copy, PartialEq, Eq)]
 pub enum SubmissionField {
     Opcode,
     Fuse,
@@ -36,7 +36,7 @@ pub enum SubmissionField {
 }
 
 /// A field of completion entries, by the name that it has in `fields`.
-#[derive(Clone, Copy, Debug, PartialEq, Eq)]
+#[derive(Clone, Copy, PartialEq, Eq)]
 pub enum CompletionField {
     SqHead,
     SqId,

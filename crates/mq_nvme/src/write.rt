@@ -18,7 +18,7 @@ type Reserved = Field<0, 10, 4>;
 type Unused = Field<12, 18, 12>;
 
 /// A write of one logical block to namespace 1 from a slot's buffer, as a request of a transaction.
-#[derive(Clone, Copy, Debug, PartialEq, Eq)]
+#[derive(Clone, Copy, PartialEq, Eq)]
 pub struct WriteReq {
     /// The number of the transaction, from 1 on.
     pub tx: u64,
@@ -31,7 +31,7 @@ pub struct WriteReq {
 }
 
 /// Why an entry is no such write, with what was found instead.
-#[derive(Clone, Copy, Debug, PartialEq, Eq)]
+#[derive(Clone, Copy, PartialEq, Eq)]
 pub enum EntryRefusal {
     Opcode { found: u32 },
     Namespace { found: u32 },

@@ -5,7 +5,7 @@ use std::alloc::Global;
 pub const LOAD_LIMIT: u64 = 2_147_483_648;
 
 /// Why a load gave no bytes.
-#[derive(Clone, Copy, Debug, PartialEq, Eq, Hash)]
+#[derive(Clone, Copy, PartialEq, Eq)]
 pub enum LoadRefusal {
     Failed,
     TooLong,
@@ -13,14 +13,14 @@ pub enum LoadRefusal {
 }
 
 /// Why a save put no bytes.
-#[derive(Clone, Copy, Debug, PartialEq, Eq, Hash)]
+#[derive(Clone, Copy, PartialEq, Eq)]
 pub enum SaveRefusal {
     Failed,
     OutOfMemory,
 }
 
 /// Why a put appended no bytes.
-#[derive(Clone, Copy, Debug, PartialEq, Eq, Hash)]
+#[derive(Clone, Copy, PartialEq, Eq)]
 pub enum PutRefusal {
     Failed,
     OutOfMemory,

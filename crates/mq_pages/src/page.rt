@@ -15,7 +15,7 @@ pub struct PageCell {
 }
 
 /// Whether a block holds metadata of the file system or the bytes of a file.
-#[derive(Clone, Copy, Debug, PartialEq, Eq, Hash)]
+#[derive(Clone, Copy, PartialEq, Eq)]
 pub enum Kind {
     Meta,
     Data,

@@ -2,7 +2,7 @@
 use mq_blocks::TxNo;
 
 /// What one step of a queue completed.
-#[derive(Clone, Copy, Debug, PartialEq, Eq)]
+#[derive(Clone, Copy, PartialEq, Eq)]
 pub enum Took {
     /// Nothing is posted.
     Idle,

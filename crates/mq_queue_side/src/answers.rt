@@ -5,7 +5,7 @@ use mq_blocks::{BlockNo, TxNo};
 use mq_drive::Off;
 
 /// Why a transaction stopped its queue.
-#[derive(Clone, Copy, Debug, PartialEq, Eq)]
+#[derive(Clone, Copy, PartialEq, Eq)]
 pub enum Why {
     /// A command of it ended with this status.
     Status(u16),
@@ -14,7 +14,7 @@ pub enum Why {
 }
 
 /// Why the drive did not execute a call.
-#[derive(Clone, Copy, Debug, PartialEq, Eq)]
+#[derive(Clone, Copy, PartialEq, Eq)]
 pub enum Cause {
     /// The power is off.
     Off,
@@ -38,7 +38,7 @@ impl From<Off> for Cause {
 }
 
 /// Whether a transaction has room on its queue.
-#[derive(Clone, Copy, Debug, PartialEq, Eq)]
+#[derive(Clone, Copy, PartialEq, Eq)]
 pub enum Fit {
     Yes,
     /// There is too little room in the ring, until the queue is drained.

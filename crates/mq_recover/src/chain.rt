@@ -50,7 +50,7 @@ pub struct QueueRead {
 }
 
 // The entry before the head.
-#[derive(Clone, Copy, Debug, PartialEq, Eq)]
+#[derive(Clone, Copy, PartialEq, Eq)]
 pub struct Newest {
     pub number: u64,
     pub lba: u64,

@@ -17,7 +17,7 @@ use mq_drive::{Port, Ports};
 use std::alloc::Global;
 
 /// What a recovery found.
-#[derive(Clone, Copy, Debug, PartialEq, Eq)]
+#[derive(Clone, Copy, PartialEq, Eq)]
 pub struct Recovered {
     /// The number of transactions above the old base that stand.
     pub prefix: u64,

@@ -11,7 +11,7 @@ use mq_blocks::{BlockNo, Geometry, OutOfMemory, QueueNo};
 use std::alloc::Global;
 
 /// Where a copy stands: a place of a queue's journal area.
-#[derive(Clone, Copy, Debug, PartialEq, Eq)]
+#[derive(Clone, Copy, PartialEq, Eq)]
 pub struct CopyPlace {
     pub queue: QueueNo,
     pub place: u64,

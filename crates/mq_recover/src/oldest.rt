@@ -9,7 +9,7 @@ use crate::refusal::ImageFault;
 use mq_blocks::{QueueNo, TxNo};
 
 // The least number that ends a chain, and the least two queues whose chains end with it.
-#[derive(Clone, Copy, Debug, PartialEq, Eq)]
+#[derive(Clone, Copy, PartialEq, Eq)]
 pub struct Least {
     pub number: u64,
     pub first: QueueNo,

@@ -6,7 +6,7 @@ use mq_nvme::EntryRefusal;
 use std::alloc::{AllocError, AllocFailed};
 
 /// Why the chain of a queue can't be read.
-#[derive(Clone, Copy, Debug, PartialEq, Eq)]
+#[derive(Clone, Copy, PartialEq, Eq)]
 pub enum ChainRefusal {
     /// The head is above the doorbell or too far below it, or the doorbell is above its limit.
     Words,
@@ -58,7 +58,7 @@ impl<T: Drop> From<AllocFailed<T>> for ChainRefusal {
 }
 
 /// Why an image can't be read.
-#[derive(Clone, Copy, Debug, PartialEq, Eq)]
+#[derive(Clone, Copy, PartialEq, Eq)]
 pub enum ImageFault {
     Bad {
         queue: QueueNo,
@@ -111,7 +111,7 @@ impl<T: Drop> From<AllocFailed<T>> for ImageFault {
 }
 
 /// Why recovery did not complete.
-#[derive(Clone, Copy, Debug, PartialEq, Eq)]
+#[derive(Clone, Copy, PartialEq, Eq)]
 pub enum RecoverRefusal {
     /// Nothing was changed.
     Image(ImageFault),

@@ -34,7 +34,7 @@ pub struct Update {
 }
 
 /// Why the next update of the history was not applied, in the order in which the causes are looked for.
-#[derive(Clone, Copy, Debug, PartialEq, Eq)]
+#[derive(Clone, Copy, PartialEq, Eq)]
 pub enum OfferRefusal {
     /// An earlier offer met a cause of the drive.
     Stopped,

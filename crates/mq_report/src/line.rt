@@ -35,7 +35,7 @@ impl Model for Line {
 }
 
 /// The answer to a group: the number of its line, or why it was refused.
-#[derive(Clone, Copy, Debug, PartialEq, Eq)]
+#[derive(Clone, Copy, PartialEq, Eq)]
 pub struct Told {
     pub session: u32,
     pub group: u32,
@@ -44,7 +44,7 @@ pub struct Told {
 }
 
 /// How a run ended.
-#[derive(Clone, Copy, Debug, PartialEq, Eq)]
+#[derive(Clone, Copy, PartialEq, Eq)]
 pub enum Last {
     /// Everything up to this number, which is the base, was written home.
     Clean(TxNo),

@@ -8,7 +8,7 @@ use std::alloc::Global;
 use std::marker::Model;
 
 /// A block that a transaction writes.
-#[derive(Clone, Copy, Debug, PartialEq, Eq)]
+#[derive(Clone, Copy, PartialEq, Eq)]
 pub struct Planned {
     pub block: BlockNo,
     /// Whether it holds bytes of a file, not metadata.
@@ -65,7 +65,7 @@ impl Model for Placement {
 }
 
 /// A transaction writes more blocks than a transaction may write.
-#[derive(Clone, Copy, Debug, PartialEq, Eq)]
+#[derive(Clone, Copy, PartialEq, Eq)]
 pub struct TooLarge {
     pub count: u32,
     pub limit: u32,

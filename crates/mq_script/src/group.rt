@@ -3,7 +3,7 @@ use mq_tree::Request;
 use std::marker::Model;
 
 /// How a group ends: what it needs beside the execution of its requests.
-#[derive(Clone, Copy, Debug, PartialEq, Eq)]
+#[derive(Clone, Copy, PartialEq, Eq)]
 pub enum End {
     /// The group is one transaction, and durable before the answer.
     Fsync,

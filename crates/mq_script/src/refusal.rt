@@ -7,7 +7,7 @@ use mq_blocks::OutOfMemory;
 use std::alloc::{AllocError, AllocFailed};
 
 /// Why a script is refused at a line.
-#[derive(Clone, Copy, Debug, PartialEq, Eq)]
+#[derive(Clone, Copy, PartialEq, Eq)]
 pub enum ScriptCause {
     /// The script has too many bytes. The line is 0.
     Size,
@@ -28,7 +28,7 @@ pub enum ScriptCause {
 }
 
 /// Why a script is not read.
-#[derive(Clone, Copy, Debug, PartialEq, Eq)]
+#[derive(Clone, Copy, PartialEq, Eq)]
 pub enum ScriptRefusal {
     /// The first line that is refused, counted from 1, and its first cause.
     At { line: u32, cause: ScriptCause },

@@ -14,7 +14,7 @@ pub struct Answer<R> {
 }
 
 /// Why a group was refused.
-#[derive(Clone, Copy, Debug, PartialEq, Eq)]
+#[derive(Clone, Copy, PartialEq, Eq)]
 pub struct Refusal {
     pub cause: RefusalCause,
     /// The number that the group had drawn. Its transaction may or may not survive a power cut.
@@ -22,7 +22,7 @@ pub struct Refusal {
 }
 
 /// The cause of a refusal.
-#[derive(Clone, Copy, Debug, PartialEq, Eq)]
+#[derive(Clone, Copy, PartialEq, Eq)]
 pub enum RefusalCause {
     OutOfMemory,
     /// The group writes more blocks than one transaction may.

@@ -1,7 +1,7 @@
 // Points of a call at which its caller may wait.
 
 /// A point that a call has reached. The session holds no turn there.
-#[derive(Clone, Copy, Debug, PartialEq, Eq)]
+#[derive(Clone, Copy, PartialEq, Eq)]
 pub enum Point {
     /// The commit was rung, and all turns are given back.
     Rung,
@@ -16,7 +16,7 @@ pub trait Gate {
 }
 
 /// A gate that is always open.
-#[derive(Clone, Copy, Debug, PartialEq, Eq)]
+#[derive(Clone, Copy, PartialEq, Eq)]
 pub struct Open;
 
 impl Gate for Open {

@@ -37,7 +37,7 @@ pub struct Turns<'s> {
 }
 
 /// What they were answered.
-#[derive(Clone, Copy, Debug, PartialEq)]
+#[derive(Clone, Copy, PartialEq)]
 pub struct AllTold {
     pub first: Option<Told>,
     pub again: Option<Told>,

@@ -20,7 +20,7 @@ use std::alloc::Global;
 const QUEUE: QueueNo = QueueNo(0);
 
 /// What a commit came to.
-#[derive(Clone, Copy, Debug, PartialEq, Eq)]
+#[derive(Clone, Copy, PartialEq, Eq)]
 pub enum Went {
     Sent,
     Cut,

@@ -81,7 +81,7 @@ fn entries_with_a_field_at_its_greatest(rt: HostRuntime) {
         let mut entry = write_of(&request());
         assert!(rt; field.fits(value) && (value == MAX || !field.fits(value.saturating_add(1))));
         field.set(&mut entry, value);
-        assert!(rt; read_write(&entry) == read, "{field:?}");
+        assert!(rt; read_write(&entry) == read);
     }
 }
 
@@ -101,6 +101,6 @@ fn completions_with_a_field_at_its_greatest(rt: HostRuntime) {
         let mut completion = failed();
         assert!(rt; field.fits(value) && !field.fits(value.saturating_add(1)));
         field.set(&mut completion, value);
-        assert_eq!(rt; status_of(&completion), status, "{field:?}");
+        assert_eq!(rt; status_of(&completion), status);
     }
 }

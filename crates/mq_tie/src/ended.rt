@@ -8,7 +8,7 @@ use mq_pages::PageCell;
 use mq_queue_side::{QueueSide, Root};
 
 /// Where an entry is stored: the queue, and the place among those that were drawn on it, the oldest first.
-#[derive(Clone, Copy, Debug, PartialEq, Eq)]
+#[derive(Clone, Copy, PartialEq, Eq)]
 pub(crate) struct EntryPlace {
     pub(crate) queue: usize,
     pub(crate) place: usize,

@@ -3,7 +3,7 @@ use mq_blocks::{BlockNo, OutOfMemory};
 use std::alloc::{AllocError, AllocFailed};
 
 /// What is wrong at a block.
-#[derive(Clone, Copy, Debug, PartialEq, Eq)]
+#[derive(Clone, Copy, PartialEq, Eq)]
 pub enum CorruptCause {
     /// A part of the block is not in its form, or a byte or bit that has to be 0 is not.
     Layout,
@@ -26,7 +26,7 @@ pub enum CorruptCause {
 }
 
 /// Why a mount is refused.
-#[derive(Clone, Copy, Debug, PartialEq, Eq)]
+#[derive(Clone, Copy, PartialEq, Eq)]
 pub enum MountRefusal {
     /// The blocks have no tree, and this is wrong at this block.
     Corrupt { cause: CorruptCause, block: BlockNo },
@@ -34,7 +34,7 @@ pub enum MountRefusal {
 }
 
 /// Why a mount is refused, with the phase that found it, from 1 to 6.
-#[derive(Clone, Copy, Debug, PartialEq, Eq)]
+#[derive(Clone, Copy, PartialEq, Eq)]
 pub enum PhaseRefusal {
     /// No earlier phase found anything. This is the least block at which this one did, and its first cause there.
     Found {

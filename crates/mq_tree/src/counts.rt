@@ -7,7 +7,7 @@ use crate::contents::InodeContent;
 use crate::tree::Tree;
 
 /// The number of directories and of files, and the number of bytes of all files together.
-#[derive(Clone, Copy, Debug, PartialEq, Eq)]
+#[derive(Clone, Copy, PartialEq, Eq)]
 pub struct TreeCounts {
     /// The number of directories, without the root.
     pub directories: u64,

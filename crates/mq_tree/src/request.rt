@@ -47,7 +47,7 @@ pub enum Reply {
 }
 
 /// Why a request was refused. It then changed nothing.
-#[derive(Clone, Copy, Debug, PartialEq, Eq)]
+#[derive(Clone, Copy, PartialEq, Eq)]
 pub enum Fault {
     NotFound,
     Exists,

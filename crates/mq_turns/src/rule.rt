@@ -41,7 +41,7 @@ pub struct Claim {
 
 /// What a chair reports of a port: a refusal, by the fault that it is charged to, or how far its
 /// transactions have come.
-#[derive(Clone, Copy, Debug, PartialEq, Eq)]
+#[derive(Clone, Copy, PartialEq, Eq)]
 pub enum Report {
     /// The port refused a call.
     Off,
@@ -57,7 +57,7 @@ pub enum Report {
 }
 
 /// An entry in the account of a port, which is a side's or the root's.
-#[derive(Clone, Copy, Debug, PartialEq, Eq)]
+#[derive(Clone, Copy, PartialEq, Eq)]
 pub struct Charge {
     pub port: Turn,
     pub report: Report,

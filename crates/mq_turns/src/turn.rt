@@ -4,7 +4,7 @@ use mq_blocks::{BlockNo, QueueNo};
 
 /// A turn of a desk. A chair takes turns in this order: pages by number, then sides by queue, and
 /// the root last.
-#[derive(Clone, Copy, Debug, PartialEq, Eq, PartialOrd, Ord)]
+#[derive(Clone, Copy, PartialEq, Eq, PartialOrd, Ord)]
 pub enum Turn {
     Page(BlockNo),
     Side(QueueNo),

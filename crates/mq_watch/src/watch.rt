@@ -2,7 +2,7 @@
 use mq_drive::Role;
 
 /// A changing call of a port.
-#[derive(Clone, Copy, Debug, PartialEq, Eq)]
+#[derive(Clone, Copy, PartialEq, Eq)]
 pub enum Call {
     Stage,
     Flush,
