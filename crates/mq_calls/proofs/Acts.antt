@@ -16,7 +16,7 @@ use Rattle.std.specs.Prelude.{None}
 use Rattle.mq_calls.specs.Acts.{Call, IsOfCall, IsRefused, IsTurnedDown, before, cause_as, cause_of, cut, memory, no_room, too_large, turned_down}
 use Rattle.mq_calls.specs.Calling.{IsEntryFor}
 use Rattle.mq_calls.specs.Runs.{file_calls}
-use Rattle.mq_calls.specs.declared.answers.CallCause.{CallCause}
+use Rattle.mq_queue_side.specs.declared.answers.CallCause.{CallCause}
 
 -- an entry of the call's group is one of the call, with the group's replies
 pub of-call : (c : Call) (done : Done) (e : FileEntry) → IsEntryFor c done e → IsOfCall c done.replies.items e

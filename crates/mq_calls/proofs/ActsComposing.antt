@@ -12,7 +12,7 @@ use Rattle.mq_tree.specs.declared.request.Reply.{Reply}
 use Rattle.mq_calls.specs.Acts.{Call, HasActed}
 use Rattle.mq_calls.specs.Runs.{file_calls}
 use Rattle.mq_calls.specs.Synchronizing.{IsDurable, IsNotDurable, WasDrainRefused, after}
-use Rattle.mq_calls.specs.declared.answers.CallCause.{CallCause}
+use Rattle.mq_queue_side.specs.declared.answers.CallCause.{CallCause}
 use Rattle.mq_sessions.proofs.AttemptsComposing.{acted-swept}
 
 module _ {P : Type 0} {G : Ghosts P} (state : P → PortState) (faults : P → List PortFault) where

@@ -7,8 +7,8 @@ use Rattle.mq_tree.specs.Requests.{is_change}
 use Rattle.mq_tree.specs.declared.request.Request.{Request}
 use Rattle.mq_calls.specs.Asking.{IsFirstChange, refusal_at}
 use Rattle.mq_calls.specs.declared.answers.Answer.{Answer}
-use Rattle.mq_calls.specs.declared.answers.CallCause.TheVariants.{Changes, OutOfMemory}
-use Rattle.mq_calls.specs.declared.answers.Refusal.{Refusal}
+use Rattle.mq_queue_side.specs.declared.answers.CallCause.TheVariants.{Changes, OutOfMemory}
+use Rattle.mq_queue_side.specs.declared.answers.Refusal.{Refusal}
 
 -- a group with an index has a request
 some-request : (requests : List Request) (i : ℕ) → i < length requests → Request

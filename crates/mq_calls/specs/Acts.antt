@@ -26,8 +26,8 @@ use Rattle.mq_sessions.specs.declared.answers.RefusalCause.TheVariants as given
 pub use Rattle.mq_sessions.specs.Attempts.{again, at_once}
 use Rattle.mq_calls.specs.Runs.{file_calls}
 pub use Rattle.mq_calls.specs.Runs.{IsOfCall}
-use Rattle.mq_calls.specs.declared.answers.CallCause.{CallCause}
-use Rattle.mq_calls.specs.declared.answers.CallCause.TheVariants as refused
+use Rattle.mq_queue_side.specs.declared.answers.CallCause.{CallCause}
+use Rattle.mq_queue_side.specs.declared.answers.CallCause.TheVariants as refused
 
 -- a call of a session
 abbrev pub Call : Type 0

@@ -7,9 +7,9 @@ use Rattle.mq_journal.specs.Numbers.{Seat}
 use Rattle.mq_tree.specs.Requests.{is_change}
 use Rattle.mq_tree.specs.declared.request.Request.{Request}
 use Rattle.mq_calls.specs.Acts.{KeepsAll}
-use Rattle.mq_calls.specs.declared.answers.CallCause.{CallCause}
-use Rattle.mq_calls.specs.declared.answers.CallCause.TheVariants.{Changes, OutOfMemory}
-use Rattle.mq_calls.specs.declared.answers.Refusal.{Refusal}
+use Rattle.mq_queue_side.specs.declared.answers.CallCause.{CallCause}
+use Rattle.mq_queue_side.specs.declared.answers.CallCause.TheVariants.{Changes, OutOfMemory}
+use Rattle.mq_queue_side.specs.declared.answers.Refusal.{Refusal}
 
 -- The request with this index may change the tree, and none before it may.
 pub record IsFirstChange (requests : List Request) (index : ℕ) : Type 0 where

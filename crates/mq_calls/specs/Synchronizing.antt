@@ -12,8 +12,8 @@ use Rattle.mq_journal.specs.Sweeping.{NamesUpto, WasRefused}
 use Rattle.mq_queue_side.specs.declared.answers.Cause.{Cause}
 use Rattle.mq_tree.specs.declared.request.Reply.{Reply}
 use Rattle.mq_calls.specs.Acts.{Call, HasActed, IsRefused}
-use Rattle.mq_calls.specs.declared.answers.CallCause.{CallCause}
-use Rattle.mq_calls.specs.declared.answers.CallCause.TheVariants.{Drive}
+use Rattle.mq_queue_side.specs.declared.answers.CallCause.{CallCause}
+use Rattle.mq_queue_side.specs.declared.answers.CallCause.TheVariants.{Drive}
 
 -- the number that a group has drawn, if it drew one
 abbrev pub drawn_at : (at : ℕ) → (drew : Bool) → Option ℕ

@@ -7,7 +7,8 @@ ghost use Rattle.mq_calls.specs.Acts.{GoesOn, KeepsAll, ReadsOnly};
 ghost use Rattle.mq_calls.specs.Asking.{IsFirstChange, IsNotAnswered, refusal_at};
 ghost use Rattle.mq_calls.specs.Sessions.{IsReady};
 
-use crate::answers::{Answer, CallCause, Refusal};
+use crate::answers::Answer;
+use mq_queue_side::{CallCause, Refusal};
 use crate::rounds::run_held;
 use crate::session::{Mqfs, Session};
 use mq_blocks::OutOfMemory;

@@ -8,7 +8,8 @@ ghost use Rattle.mq_calls.specs.Calling.{call_by};
 ghost use Rattle.mq_calls.specs.Sessions.{IsReady};
 ghost use Rattle.mq_calls.specs.Synchronizing.{IsDurable, IsNotDurable, WasDrainRefused};
 
-use crate::answers::{Answer, CallCause, Refusal};
+use crate::answers::Answer;
+use mq_queue_side::{CallCause, Refusal};
 use crate::session::{Mqfs, Session};
 use mq_drive::Port;
 use mq_journal::drain_all;

@@ -16,11 +16,12 @@ mod session;
 mod settling;
 mod telling;
 
-pub use answers::{Answer, CallCause, Refusal};
+pub use answers::Answer;
 pub use laws::{a_done_group_stands, a_reading_group_changes_nothing};
 pub use machine::{FileGroups, FileMachine};
 pub use mounting::find_volume;
 pub use mq_checkpoint::CheckpointRefusal;
+pub use mq_queue_side::{CallCause, Refusal};
 pub use mq_sessions::{
     Aide, Gate, Open, Point, Shaped, User, current_pages_are_of_the_map, drawn_pages_are_held,
     give_back_pages, held_pages_are_current, held_pages_stay, no_page_is_left, take_pages,

@@ -6,7 +6,7 @@ use Rattle.std.specs.List.{AllPairs, Contains}
 use Rattle.std.proofs.lemmas.Bool.{cases_lt, true≢false}
 use Rattle.mq_blocks.specs.Journal.{Shown}
 use Rattle.mq_blocks.specs.declared.geometry.Geometry.{Geometry}
-use Rattle.mq_calls.specs.declared.answers.Refusal.{Refusal}
+use Rattle.mq_queue_side.specs.declared.answers.Refusal.{Refusal}
 use Rattle.mq_command_gen.specs.Generated.{AreGood, EndDurable}
 use Rattle.mq_history.specs.Answers.{AreAnswered, IsAcknowledged, IsLineOf, IsOf, Names, is_good, number_in}
 use Rattle.mq_history.specs.Cuts.{HasEntries, HasShare, IsCut, IsRung, is_on}

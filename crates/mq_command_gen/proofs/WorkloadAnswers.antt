@@ -9,9 +9,9 @@ use Rattle.rand_pcg.specs.Pcg.{pcg64}
 use Rattle.mq_blocks.specs.Geometry.{meta_of, queues_of}
 use Rattle.mq_blocks.specs.declared.geometry.Geometry.{Geometry}
 use Rattle.mq_blocks.proofs.DescriptorLimits.{limit-low}
-use Rattle.mq_calls.specs.declared.answers.CallCause.{CallCause}
-use Rattle.mq_calls.specs.declared.answers.CallCause.TheVariants.{Changes, Drive, OutOfMemory, TooLarge}
-use Rattle.mq_calls.specs.declared.answers.Refusal.{Refusal}
+use Rattle.mq_queue_side.specs.declared.answers.CallCause.{CallCause}
+use Rattle.mq_queue_side.specs.declared.answers.CallCause.TheVariants.{Changes, Drive, OutOfMemory, TooLarge}
+use Rattle.mq_queue_side.specs.declared.answers.Refusal.{Refusal}
 use Rattle.mq_command_gen.specs.Generated.{IsForMemory, IsPlayed, IsShape, WorkloadsAreRefusedForMemory, sessions_alone}
 use Rattle.mq_command_gen.proofs.GeneratedWorkload.{workload-bytes, workload-count}
 use Rattle.mq_command_gen.proofs.TouchesRequests.{AreSmall, group-touches}

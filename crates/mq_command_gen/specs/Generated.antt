@@ -4,8 +4,8 @@ use Rattle.std.specs.List.{All, Contains}
 use Rattle.mq_blocks.specs.Descriptor.{Descriptor}
 use Rattle.mq_blocks.specs.Geometry.{area_of, meta_of, queues_of, zone_size}
 use Rattle.mq_blocks.specs.declared.geometry.Geometry.{Geometry}
-use Rattle.mq_calls.specs.declared.answers.CallCause.TheVariants.{OutOfMemory}
-use Rattle.mq_calls.specs.declared.answers.Refusal.{Refusal}
+use Rattle.mq_queue_side.specs.declared.answers.CallCause.TheVariants.{OutOfMemory}
+use Rattle.mq_queue_side.specs.declared.answers.Refusal.{Refusal}
 use Rattle.mq_image.specs.Drives.{IsDrive}
 use Rattle.mq_image.specs.File.{DriveImage, image_bytes}
 use Rattle.mq_image_run.specs.Runs.{IsRunOf}

@@ -1,9 +1,9 @@
 -- What `run` makes of the name of an image and of the names of scripts, and what it says.
 use Rattle.std.specs.Prelude.{◌≡◌, ◌≢◌, ◌⊎◌, ◌<◌, ◌≤◌, ◌||◌, ℕ, Bool, true, false, List, [], ◌∷◌, length, Option, Some, Result, Ok, Err, if◌then◌else◌}
 use Rattle.mq_blocks.specs.Geometry.{queues_of}
-use Rattle.mq_calls.specs.declared.answers.CallCause.{CallCause}
-use Rattle.mq_calls.specs.declared.answers.CallCause.TheVariants as cause
-use Rattle.mq_calls.specs.declared.answers.Refusal.{Refusal}
+use Rattle.mq_queue_side.specs.declared.answers.CallCause.{CallCause}
+use Rattle.mq_queue_side.specs.declared.answers.CallCause.TheVariants as cause
+use Rattle.mq_queue_side.specs.declared.answers.Refusal.{Refusal}
 use Rattle.mq_command_images.specs.Commands.{RefusesName}
 use Rattle.mq_command_images.specs.Lines.{volume_line}
 use Rattle.mq_command_run.specs.Lines.{script_line, scripts_line}

@@ -8,8 +8,8 @@ use Rattle.mq_blocks.specs.Geometry.{homes_of, queues_of, write_limit}
 use Rattle.mq_blocks.specs.Journal.{Shown}
 use Rattle.mq_blocks.specs.declared.geometry.Geometry.{Geometry}
 use Rattle.mq_calls.specs.Asking.{IsFirstChange, refusal_at}
-use Rattle.mq_calls.specs.declared.answers.CallCause.TheVariants.{Drive, TooLarge}
-use Rattle.mq_calls.specs.declared.answers.Refusal.{Refusal}
+use Rattle.mq_queue_side.specs.declared.answers.CallCause.TheVariants.{Drive, TooLarge}
+use Rattle.mq_queue_side.specs.declared.answers.Refusal.{Refusal}
 use Rattle.mq_layout.specs.Names.{is_name}
 use Rattle.mq_history.proofs.LegalMoving.{sound-writes, writes-few}
 use Rattle.mq_history.proofs.CutsStarting.{run-ends}

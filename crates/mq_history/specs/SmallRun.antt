@@ -5,7 +5,7 @@ use Rattle.std.specs.Prelude.{ℕ, true, false, List, [], ◌∷◌, None, Some,
 use Rattle.mq_blocks.specs.Geometry.{write_limit, shaped}
 use Rattle.mq_blocks.specs.declared.geometry.Geometry.{Geometry}
 use Rattle.mq_calls.specs.Asking.{refusal_at}
-use Rattle.mq_calls.specs.declared.answers.CallCause.TheVariants.{Drive, TooLarge}
+use Rattle.mq_queue_side.specs.declared.answers.CallCause.TheVariants.{Drive, TooLarge}
 use Rattle.mq_report.specs.Lines.{Line}
 use Rattle.mq_report.specs.declared.line.Told.{Told}
 use Rattle.mq_script.specs.Scripts.{Script}

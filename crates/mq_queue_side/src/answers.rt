@@ -1,4 +1,4 @@
-// What the calls of a side answer.
+// What the calls of a side answer, and those of a session above it.
 ghost use Rattle.std.specs.Prelude.{◌≡◌};
 
 use mq_blocks::{BlockNo, TxNo};
@@ -45,4 +45,25 @@ pub enum Fit {
     Ring,
     /// There is too little room in the journal area, until a checkpoint raises the base.
     Area,
+}
+
+/// Why a group was refused.
+#[derive(Clone, Copy, PartialEq, Eq)]
+pub struct Refusal {
+    pub cause: CallCause,
+    /// The number that the group had drawn. Its transaction may or may not survive a power cut.
+    pub drawn: Option<TxNo>,
+}
+
+/// The cause of a refusal.
+#[derive(Clone, Copy, PartialEq, Eq)]
+pub enum CallCause {
+    OutOfMemory,
+    /// The group writes more blocks than one transaction may.
+    TooLarge { count: u32, limit: u32 },
+    /// A request of a group that may only read would change something. The index is that of the first
+    /// such request, counted from 0.
+    Changes { index: u32 },
+    /// A port refused.
+    Drive(Cause),
 }

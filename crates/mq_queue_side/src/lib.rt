@@ -15,7 +15,7 @@ mod root;
 mod send;
 mod side;
 
-pub use answers::{Cause, Fit, Why};
+pub use answers::{CallCause, Cause, Fit, Refusal, Why};
 pub use commit::{Numbered, Prepared};
 pub use drawn::Drawn;
 pub use laws::{

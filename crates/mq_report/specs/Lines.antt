@@ -1,8 +1,8 @@
 -- What is reported of a group.
 use Rattle.std.specs.Prelude.{ℕ, Bool, List, Option, Result, Ok, Err}
-use Rattle.mq_calls.specs.declared.answers.CallCause.{CallCause}
-use Rattle.mq_calls.specs.declared.answers.CallCause.TheVariants.{OutOfMemory, TooLarge, Changes as Changing, Drive}
-use Rattle.mq_calls.specs.declared.answers.Refusal.{Refusal}
+use Rattle.mq_queue_side.specs.declared.answers.CallCause.{CallCause}
+use Rattle.mq_queue_side.specs.declared.answers.CallCause.TheVariants.{OutOfMemory, TooLarge, Changes as Changing, Drive}
+use Rattle.mq_queue_side.specs.declared.answers.Refusal.{Refusal}
 use Rattle.mq_queue_side.specs.declared.answers.Cause.{Cause}
 use Rattle.mq_queue_side.specs.declared.answers.Cause.TheVariants.{Off as PowerOff, Failed as CommandFailed, FailedHome, Stopped as WasStopped}
 use Rattle.mq_script.specs.declared.group.End.{End}

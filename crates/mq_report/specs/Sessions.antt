@@ -1,8 +1,8 @@
 -- Which answers end a session.
 use Rattle.std.specs.Prelude.{ℕ, Bool, true, false, Result, Ok, Err}
-use Rattle.mq_calls.specs.declared.answers.CallCause.{CallCause}
-use Rattle.mq_calls.specs.declared.answers.CallCause.TheVariants.{OutOfMemory, TooLarge, Changes, Drive}
-use Rattle.mq_calls.specs.declared.answers.Refusal.{Refusal}
+use Rattle.mq_queue_side.specs.declared.answers.CallCause.{CallCause}
+use Rattle.mq_queue_side.specs.declared.answers.CallCause.TheVariants.{OutOfMemory, TooLarge, Changes, Drive}
+use Rattle.mq_queue_side.specs.declared.answers.Refusal.{Refusal}
 
 -- a refusal for this cause ends its session
 abbrev pub is_end : CallCause → Bool

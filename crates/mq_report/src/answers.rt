@@ -8,8 +8,7 @@ ghost use Rattle.mq_report.specs.Texts.{after_spaces, answer_words, spaced, spel
 use crate::line::Told;
 use crate::words::{put_drawn, put_named, put_number, put_word};
 use mq_blocks::{OutOfMemory, TxNo};
-use mq_calls::{CallCause, Refusal};
-use mq_queue_side::Cause;
+use mq_queue_side::{CallCause, Cause, Refusal};
 
 /// Writes why the drive refused a group that had drawn this number.
 fn put_cause(out: &mut Vec<u8>, cause: Cause, drawn: Option<TxNo>) -> Result<(), OutOfMemory>

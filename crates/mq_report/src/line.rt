@@ -1,6 +1,6 @@
 // What a run reports.
 use mq_blocks::{BlockNo, TxNo};
-use mq_calls::Refusal;
+use mq_queue_side::Refusal;
 use mq_script::End;
 use mq_tree::Reply;
 use std::marker::Model;

@@ -8,7 +8,7 @@ use Rattle.mq_calls.specs.Asking.{IsFirstChange, IsNotAnswered, refusal_at}
 use Rattle.mq_calls.specs.Calling.{call_by}
 use Rattle.mq_calls.specs.Synchronizing.{IsDurable, IsNotDurable}
 use Rattle.mq_calls.specs.declared.answers.Answer.{Answer}
-use Rattle.mq_calls.specs.declared.answers.Refusal.{Refusal}
+use Rattle.mq_queue_side.specs.declared.answers.Refusal.{Refusal}
 use Rattle.mq_drive.specs.Steps.{PortFault}
 use Rattle.mq_drive.specs.declared.port.Port.{Ghosts}
 use Rattle.mq_file_entries.specs.declared.entry.FileEntry.{FileEntry}

@@ -9,8 +9,8 @@ use Rattle.mq_blocks.specs.Drive.{FuseName, PortImage, PortState, no_fuse}
 use Rattle.mq_blocks.specs.Geometry.{home_lba, homes_of}
 use Rattle.mq_blocks.specs.Journal.{Shown}
 use Rattle.mq_blocks.specs.declared.geometry.Geometry.{Geometry}
-use Rattle.mq_calls.specs.declared.answers.CallCause.TheVariants.{Drive}
-use Rattle.mq_calls.specs.declared.answers.Refusal.{Refusal}
+use Rattle.mq_queue_side.specs.declared.answers.CallCause.TheVariants.{Drive}
+use Rattle.mq_queue_side.specs.declared.answers.Refusal.{Refusal}
 use Rattle.mq_drive.specs.Emu.{emu_faults, emu_state, executed_of}
 use Rattle.mq_drive.specs.Failures.{errors_of, failed_of}
 use Rattle.mq_drive.specs.Limits.{fails_by}

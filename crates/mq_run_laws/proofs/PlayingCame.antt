@@ -9,8 +9,8 @@ use Rattle.mq_blocks.specs.declared.geometry.Geometry.{Geometry}
 use Rattle.mq_calls.specs.Acts.{Begins, at_once, again, Call, HasActed, IsOfCall, IsRefused, turned_down, no_room, IsTurnedDown, memory, too_large, before, cut, ReadsOnly}
 use Rattle.mq_calls.specs.Asking.{IsNotAnswered, memory as no_memory, changes}
 use Rattle.mq_calls.specs.Synchronizing.{IsNotDurable, before as refused_before, after as refused_after, drawn_at}
-use Rattle.mq_calls.specs.declared.answers.CallCause.{CallCause}
-use Rattle.mq_calls.specs.declared.answers.Refusal.{Refusal}
+use Rattle.mq_queue_side.specs.declared.answers.CallCause.{CallCause}
+use Rattle.mq_queue_side.specs.declared.answers.Refusal.{Refusal}
 use Rattle.mq_checkpoint.specs.Raised.{HasRefused}
 use Rattle.mq_checkpoint.specs.declared.refusal.CheckpointRefusal.{CheckpointRefusal}
 use Rattle.mq_checkpoint.specs.declared.refusal.CheckpointRefusal.TheVariants as checkpoint

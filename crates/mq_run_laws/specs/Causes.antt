@@ -3,8 +3,8 @@ use Rattle.std.specs.Prelude.{◌≡◌, ◌⊎◌, ◌<◌, ◌≤◌, ◌-◌,
 use Rattle.std.specs.List.{Contains}
 use Rattle.mq_blocks.specs.Geometry.{home_lba, homes_of}
 use Rattle.mq_blocks.specs.declared.geometry.Geometry.{Geometry}
-use Rattle.mq_calls.specs.declared.answers.CallCause.TheVariants.{Drive}
-use Rattle.mq_calls.specs.declared.answers.Refusal.{Refusal}
+use Rattle.mq_queue_side.specs.declared.answers.CallCause.TheVariants.{Drive}
+use Rattle.mq_queue_side.specs.declared.answers.Refusal.{Refusal}
 use Rattle.mq_drive.specs.Emu.{emu_faults}
 use Rattle.mq_drive.specs.Steps.{CommandError, HomeError, PortFault}
 use Rattle.mq_drive.specs.declared.emu.EmuPort.{EmuPort}

@@ -17,8 +17,8 @@ use Rattle.mq_history.specs.Answers.{AreAnswered, AreCaused, IsAcknowledged}
 use Rattle.mq_history.specs.Cuts.{IsClean, IsCut, IsRung}
 use Rattle.mq_history.specs.Histories.{AreOfBytes}
 use Rattle.mq_history.specs.Legal.{IsLegal, newest}
-use Rattle.mq_calls.specs.declared.answers.CallCause.TheVariants.{Drive}
-use Rattle.mq_calls.specs.declared.answers.Refusal.{Refusal}
+use Rattle.mq_queue_side.specs.declared.answers.CallCause.TheVariants.{Drive}
+use Rattle.mq_queue_side.specs.declared.answers.Refusal.{Refusal}
 use Rattle.mq_report.specs.declared.line.Told.{Told}
 use Rattle.mq_queue_side.specs.declared.answers.Cause.{Cause}
 use Rattle.mq_recover.specs.Drives.{AreImages, drive_of, faults_on}

@@ -2,7 +2,7 @@ use Rattle.std.proofs.Common.{sym, subst}
 use Rattle.mq_turns.specs.AtDesk.{view}
 use Rattle.mq_calls.specs.Acts.{IsRefused}
 use Rattle.mq_calls.specs.Calling.{call_by}
-use Rattle.mq_calls.specs.declared.answers.Refusal.{Refusal}
+use Rattle.mq_queue_side.specs.declared.answers.Refusal.{Refusal}
 use Rattle.mq_calls.proofs.Acts.{refused-as}
 use Rattle.mq_calls.proofs.calls.Mqfs+P.act.Goals as goal
 
