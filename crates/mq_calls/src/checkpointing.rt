@@ -1,6 +1,6 @@
 // A checkpoint that a session makes.
 ghost use Rattle.std.specs.Prelude.{◌≡◌, IfErr, IfOk};
-ghost use Rattle.mq_checkpoint.specs.Raised.{HasRefused, Raises};
+ghost use Rattle.mq_journal.specs.Raised.{HasRefused, Raises};
 ghost use Rattle.mq_file_entries.specs.Group.{file_group};
 ghost use Rattle.mq_turns.specs.AtDesk.{AtDesk, view};
 ghost use Rattle.mq_calls.specs.Acts.{GoesOn};
@@ -8,7 +8,7 @@ ghost use Rattle.mq_calls.specs.Sessions.{IsReady};
 
 use crate::session::{Mqfs, Session};
 use mq_blocks::TxNo;
-use mq_checkpoint::{CheckpointRefusal, checkpoint};
+use mq_journal::{CheckpointRefusal, checkpoint};
 use mq_drive::Port;
 use std::alloc::Global;
 use std::sync::Wait;

@@ -20,7 +20,7 @@ pub use answers::Answer;
 pub use laws::{a_done_group_stands, a_reading_group_changes_nothing};
 pub use machine::{FileGroups, FileMachine};
 pub use mounting::find_volume;
-pub use mq_checkpoint::CheckpointRefusal;
+pub use mq_journal::CheckpointRefusal;
 pub use mq_queue_side::{CallCause, Refusal};
 pub use mq_sessions::{
     Aide, Gate, Open, Point, Shaped, User, current_pages_are_of_the_map, drawn_pages_are_held,

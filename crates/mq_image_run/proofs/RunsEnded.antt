@@ -1,8 +1,8 @@
 -- How a run ends.
 use Rattle.std.proofs.Common.{◌≡◌, ℕ, Option, Some, None, ap, refl}
 use Rattle.std.specs.Prelude.{Err, Ok, Result}
-use Rattle.mq_checkpoint.specs.declared.refusal.CheckpointRefusal.{CheckpointRefusal}
-use Rattle.mq_checkpoint.specs.declared.refusal.CheckpointRefusal.TheVariants as checkpoint
+use Rattle.mq_journal.specs.declared.refusal.CheckpointRefusal.{CheckpointRefusal}
+use Rattle.mq_journal.specs.declared.refusal.CheckpointRefusal.TheVariants as checkpoint
 use Rattle.mq_report.specs.declared.line.Last.{Last}
 use Rattle.mq_report.specs.declared.line.Last.TheVariants.{Clean}
 use Rattle.mq_queue_side.specs.declared.answers.Cause.{Cause}

@@ -17,7 +17,7 @@ ghost use Rattle.mq_run.specs.Playing.{IsShort};
 use crate::options::RunOptions;
 use mq_blocks::{Geometry, OutOfMemory, TxNo};
 use mq_calls::{Gate, find_volume};
-use mq_checkpoint::CheckpointRefusal;
+use mq_journal::CheckpointRefusal;
 use mq_drive::{EmuPort, Fuse, FuseSeat, PortImage, Ports};
 use mq_image_ops::{
     CutDrive, RecoveredImage, StandingRefusal, a_recovered_image_holds_what_stood,

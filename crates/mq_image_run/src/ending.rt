@@ -7,7 +7,7 @@ ghost use Rattle.mq_run.specs.Ending.{IsAskedFor};
 
 use crate::options::Ending;
 use mq_blocks::{OutOfMemory, TxNo};
-use mq_checkpoint::CheckpointRefusal;
+use mq_journal::CheckpointRefusal;
 use mq_queue_side::Cause;
 use mq_report::Last;
 

@@ -12,3 +12,10 @@ pub mod SweepingDrains
 pub mod LawsKeeping
 pub mod LawsInHand
 pub mod Settled
+pub mod StepsDrains
+pub mod Steps
+pub mod RaisedHomeSide
+pub mod PagesHomeViews
+pub mod PagesVisits
+pub mod RaisedAtRoot
+pub mod StepsAtEnd

@@ -6,3 +6,7 @@ pub mod Sweeping
 pub mod Held
 pub mod Laws
 pub mod Settling
+pub mod Steps
+pub mod Pages
+pub mod Ports
+pub mod Raised

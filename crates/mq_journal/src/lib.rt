@@ -2,12 +2,19 @@
 //! for groups of any kind.
 #![tactic(auto)]
 
+mod catching_up;
 mod draining;
 mod held;
+mod homes;
 mod laws;
 mod machine;
 mod numbers;
+mod pages;
+mod raising;
+mod refusal;
 mod reporting;
+mod root;
+mod root_reporting;
 mod sending;
 mod settling;
 mod sweeping;
@@ -19,6 +26,8 @@ pub use laws::{
 };
 pub use machine::{Groups, JournalMachine};
 pub use numbers::number;
+pub use raising::checkpoint;
+pub use refusal::CheckpointRefusal;
 pub use reporting::report_side;
 pub use sending::send;
 pub use settling::settle;

@@ -1,6 +1,6 @@
 // The calls of a session.
 ghost use Rattle.std.specs.Prelude.{◌≡◌, ◌+◌, ◌<◌, IfErr, IfOk};
-ghost use Rattle.mq_checkpoint.specs.Raised.{HasRefused, Raises};
+ghost use Rattle.mq_journal.specs.Raised.{HasRefused, Raises};
 ghost use Rattle.mq_kv_entries.specs.Group.{store_group};
 ghost use Rattle.mq_kv.specs.Calls.{IsAnswered, IsDenied};
 ghost use Rattle.mq_sessions.specs.Acts.{GoesOn};
@@ -9,7 +9,7 @@ ghost use Rattle.mq_turns.specs.AtDesk.{AtDesk, view};
 
 use crate::session::{Kv, KvSession};
 use mq_blocks::TxNo;
-use mq_checkpoint::CheckpointRefusal;
+use mq_journal::CheckpointRefusal;
 use mq_drive::Port;
 use mq_kv_buckets::{KvOp, KvReply};
 use mq_sessions::{Answer, CALL_LIMIT, Refusal, RefusalCause, act, act_durably};

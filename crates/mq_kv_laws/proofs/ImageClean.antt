@@ -7,7 +7,7 @@ use Rattle.mq_blocks.specs.Descriptor.{Descriptor}
 use Rattle.mq_blocks.specs.Drive.{PortImage, PortState}
 use Rattle.mq_blocks.specs.Journal.{image_at, shown}
 use Rattle.mq_blocks.specs.declared.geometry.Geometry.{Geometry}
-use Rattle.mq_checkpoint.specs.Raised.{Raises}
+use Rattle.mq_journal.specs.Raised.{Raises}
 use Rattle.mq_core.proofs.KnownJournalGrowth.{front_low}
 use Rattle.mq_drive.specs.Steps.{PortFault}
 use Rattle.mq_drive.specs.declared.port.Port.{Ghosts}

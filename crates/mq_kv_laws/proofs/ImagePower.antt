@@ -5,9 +5,9 @@ use Rattle.std.specs.List.{Contains}
 use Rattle.mq_blocks.specs.Drive.{PortState}
 use Rattle.mq_blocks.specs.declared.geometry.Geometry.{Geometry}
 use Rattle.mq_blocks.proofs.Options.{none-of}
-use Rattle.mq_checkpoint.specs.Raised.{HasRefused}
-use Rattle.mq_checkpoint.specs.declared.refusal.CheckpointRefusal.{CheckpointRefusal}
-use Rattle.mq_checkpoint.specs.declared.refusal.CheckpointRefusal.TheVariants as checkpoint
+use Rattle.mq_journal.specs.Raised.{HasRefused}
+use Rattle.mq_journal.specs.declared.refusal.CheckpointRefusal.{CheckpointRefusal}
+use Rattle.mq_journal.specs.declared.refusal.CheckpointRefusal.TheVariants as checkpoint
 use Rattle.mq_drive.specs.Emu.{emu_faults, emu_state, executed_of}
 use Rattle.mq_drive.specs.Failures.{errors_of}
 use Rattle.mq_drive.specs.Limits.{fails_by}

@@ -7,8 +7,8 @@ use Rattle.mq_blocks.specs.Drive.{IsImage, PortState}
 use Rattle.mq_blocks.specs.Geometry.{meta_of, queues_of}
 use Rattle.mq_blocks.specs.Journal.{Shown, image_at, shown}
 use Rattle.mq_blocks.specs.declared.geometry.Geometry.{Geometry}
-use Rattle.mq_checkpoint.specs.Raised.{Raises}
-use Rattle.mq_checkpoint.specs.declared.refusal.CheckpointRefusal.{CheckpointRefusal}
+use Rattle.mq_journal.specs.Raised.{Raises}
+use Rattle.mq_journal.specs.declared.refusal.CheckpointRefusal.{CheckpointRefusal}
 use Rattle.mq_desk_laws.specs.Rule.{core_of}
 use Rattle.mq_drive.specs.Emu.{emu_faults, emu_state}
 use Rattle.mq_drive.specs.declared.emu.EmuPort.{EmuPort}

@@ -4,7 +4,7 @@ ghost use Rattle.mq_kv_run.specs.Endings.{finishes};
 ghost use Rattle.mq_kv_run.specs.Runs.{IsLast, IsStopped, WasAsked};
 
 use mq_blocks::{OutOfMemory, TxNo};
-use mq_checkpoint::CheckpointRefusal;
+use mq_journal::CheckpointRefusal;
 use mq_kv_text::LastLine;
 
 /// The last line: by the cut that was asked for, by the number of events that were counted, and by the result of the

@@ -14,7 +14,7 @@ ghost use Rattle.mq_turns.specs.AtDesk.{AtDesk, chairs_of, start_of, view};
 use crate::playing::play_groups;
 use crate::refusal::KvRunRefusal;
 use mq_blocks::{Geometry, OutOfMemory, TxNo};
-use mq_checkpoint::CheckpointRefusal;
+use mq_journal::CheckpointRefusal;
 use mq_drive::{Port, Ports};
 use mq_kv::{Kv, KvOpenRefusal, KvSession};
 use mq_kv_entries::KvEntry;

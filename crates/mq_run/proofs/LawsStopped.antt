@@ -5,8 +5,8 @@ use Rattle.std.specs.List.{Contains}
 use Rattle.std.proofs.lemmas.List.Elements.{Contains-append_right}
 use Rattle.mq_blocks.specs.Drive.{PortState}
 use Rattle.mq_blocks.specs.declared.geometry.Geometry.{Geometry}
-use Rattle.mq_checkpoint.specs.Raised.{HasRefused}
-use Rattle.mq_checkpoint.specs.declared.refusal.CheckpointRefusal.TheVariants.{Drive}
+use Rattle.mq_journal.specs.Raised.{HasRefused}
+use Rattle.mq_journal.specs.declared.refusal.CheckpointRefusal.TheVariants.{Drive}
 use Rattle.mq_drive.specs.Steps.{PortFault}
 use Rattle.mq_drive.specs.declared.port.Port.{Ghosts}
 use Rattle.mq_drive.specs.declared.port.Ports.{Ports}

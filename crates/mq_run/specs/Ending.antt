@@ -1,8 +1,8 @@
 -- The end of a run: one session hears of all that the others know, and makes a checkpoint.
 use Rattle.std.specs.Prelude.{◌≡◌, ◌≤◌, ℕ, Bool, true, false, List, ◌∷◌, Option, None, Some, Result, Ok, Err}
 use Rattle.mq_blocks.specs.Drive.{PortState}
-use Rattle.mq_checkpoint.specs.Raised.{HasRefused, Raises}
-use Rattle.mq_checkpoint.specs.declared.refusal.CheckpointRefusal.{CheckpointRefusal}
+use Rattle.mq_journal.specs.Raised.{HasRefused, Raises}
+use Rattle.mq_journal.specs.declared.refusal.CheckpointRefusal.{CheckpointRefusal}
 use Rattle.mq_drive.specs.Steps.{PortFault}
 use Rattle.mq_drive.specs.declared.port.Port.{Ghosts}
 use Rattle.mq_file_entries.specs.Group.{file_group}

@@ -1,6 +1,6 @@
 // What a run leaves.
 use mq_blocks::TxNo;
-use mq_checkpoint::CheckpointRefusal;
+use mq_journal::CheckpointRefusal;
 use mq_drive::{Port, Ports};
 use mq_file_entries::Placed;
 use mq_pages::PageCell;

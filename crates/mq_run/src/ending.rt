@@ -18,7 +18,7 @@ use crate::lines::{commit_lines, count_all, gather, placements, sort_lines};
 use crate::runner::{Assistant, HelperHalf, Pair, Runner, SessionHalf};
 use mq_blocks::{OutOfMemory, TxNo};
 use mq_calls::{FileMachine, Helper, Mqfs, Session};
-use mq_checkpoint::CheckpointRefusal;
+use mq_journal::CheckpointRefusal;
 use mq_drive::Port;
 use mq_file_entries::FileEntry;
 use mq_notices::close;

@@ -42,8 +42,8 @@ use Rattle.mq_history.specs.Cuts.{IsCut}
 use Rattle.mq_history.specs.Histories.{AreOfBytes}
 use Rattle.mq_recover.specs.Drives.{AreBoundsKept, ArePorts, DriveFaults, DriveState, drive_of, faults_on}
 use Rattle.mq_recover.specs.Recovery.{IsReadPrefix}
-use Rattle.mq_checkpoint.specs.declared.refusal.CheckpointRefusal.{CheckpointRefusal}
-use Rattle.mq_checkpoint.specs.declared.refusal.CheckpointRefusal.TheVariants as checkpoint
+use Rattle.mq_journal.specs.declared.refusal.CheckpointRefusal.{CheckpointRefusal}
+use Rattle.mq_journal.specs.declared.refusal.CheckpointRefusal.TheVariants as checkpoint
 use Rattle.mq_report.specs.declared.line.Last.{Last}
 use Rattle.mq_report.specs.declared.line.Last.TheVariants.{Cut}
 use Rattle.mq_report.specs.declared.line.Told.{Told}

@@ -11,9 +11,9 @@ use Rattle.mq_calls.specs.Asking.{IsNotAnswered, memory as no_memory, changes}
 use Rattle.mq_calls.specs.Synchronizing.{IsNotDurable, before as refused_before, after as refused_after, drawn_at}
 use Rattle.mq_queue_side.specs.declared.answers.CallCause.{CallCause}
 use Rattle.mq_queue_side.specs.declared.answers.Refusal.{Refusal}
-use Rattle.mq_checkpoint.specs.Raised.{HasRefused}
-use Rattle.mq_checkpoint.specs.declared.refusal.CheckpointRefusal.{CheckpointRefusal}
-use Rattle.mq_checkpoint.specs.declared.refusal.CheckpointRefusal.TheVariants as checkpoint
+use Rattle.mq_journal.specs.Raised.{HasRefused}
+use Rattle.mq_journal.specs.declared.refusal.CheckpointRefusal.{CheckpointRefusal}
+use Rattle.mq_journal.specs.declared.refusal.CheckpointRefusal.TheVariants as checkpoint
 use Rattle.mq_drive.specs.Steps.{PortFault}
 use Rattle.mq_drive.specs.declared.port.Port.{Ghosts}
 use Rattle.mq_file_entries.specs.Entries.{written_by}

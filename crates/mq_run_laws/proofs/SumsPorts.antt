@@ -6,7 +6,7 @@ use Rattle.std.proofs.lemmas.List.{length-map}
 use Rattle.mq_blocks.specs.Drive.{PortState}
 use Rattle.mq_blocks.specs.Totals.{total}
 use Rattle.mq_blocks.specs.declared.geometry.Geometry.{Geometry}
-use Rattle.mq_checkpoint.specs.declared.refusal.CheckpointRefusal.{CheckpointRefusal}
+use Rattle.mq_journal.specs.declared.refusal.CheckpointRefusal.{CheckpointRefusal}
 use Rattle.mq_desk_laws.proofs.Opening.{at_map}
 use Rattle.mq_desk_laws.specs.Faults.{AreCharged, charged_to, fault_of, of_kind, passes}
 use Rattle.mq_desk_laws.specs.Rule.{IsOfPort, IsPortTurn, IsSide, geometry_of}

@@ -7,8 +7,8 @@ use Rattle.mq_blocks.specs.declared.geometry.Geometry.{Geometry}
 use Rattle.mq_queue_side.specs.declared.answers.CallCause.{CallCause}
 use Rattle.mq_queue_side.specs.declared.answers.CallCause.TheVariants.{Changes, Drive, OutOfMemory, TooLarge}
 use Rattle.mq_queue_side.specs.declared.answers.Refusal.{Refusal}
-use Rattle.mq_checkpoint.specs.declared.refusal.CheckpointRefusal.{CheckpointRefusal}
-use Rattle.mq_checkpoint.specs.declared.refusal.CheckpointRefusal.TheVariants as checkpoint
+use Rattle.mq_journal.specs.declared.refusal.CheckpointRefusal.{CheckpointRefusal}
+use Rattle.mq_journal.specs.declared.refusal.CheckpointRefusal.TheVariants as checkpoint
 use Rattle.mq_desk_laws.specs.Faults.{fault_of, of_kind, passes}
 use Rattle.mq_drive.specs.Faults.{count_of}
 use Rattle.mq_drive.specs.Steps.{PortFault}

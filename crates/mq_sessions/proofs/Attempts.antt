@@ -2,7 +2,7 @@
 use Rattle.mq_blocks.specs.Drive.{PortState}
 use Rattle.mq_blocks.specs.Geometry.{write_limit}
 use Rattle.mq_blocks.specs.declared.geometry.Geometry.{Geometry}
-use Rattle.mq_checkpoint.specs.Steps.{IsKnownFrom}
+use Rattle.mq_journal.specs.Steps.{IsKnownFrom}
 use Rattle.mq_drive.specs.Steps.{PortFault}
 use Rattle.mq_drive.specs.declared.port.Port.{Ghosts}
 use Rattle.mq_journal.specs.Draining.{report_of}

@@ -4,10 +4,10 @@ use Rattle.std.specs.Prelude.{Result, Ok, Err, IfOk, IfErr, Some, None}
 use Rattle.std.proofs.lemmas.Option.{same_Some}
 use Rattle.mq_blocks.specs.Drive.{PortState}
 use Rattle.mq_blocks.specs.declared.geometry.Geometry.{Geometry}
-use Rattle.mq_checkpoint.specs.Raised.{HasRefused, Raises}
-use Rattle.mq_checkpoint.specs.Steps.{MovesOn}
-use Rattle.mq_checkpoint.specs.declared.refusal.CheckpointRefusal.{CheckpointRefusal}
-use Rattle.mq_checkpoint.specs.declared.refusal.CheckpointRefusal.TheVariants as checkpoint
+use Rattle.mq_journal.specs.Raised.{HasRefused, Raises}
+use Rattle.mq_journal.specs.Steps.{MovesOn}
+use Rattle.mq_journal.specs.declared.refusal.CheckpointRefusal.{CheckpointRefusal}
+use Rattle.mq_journal.specs.declared.refusal.CheckpointRefusal.TheVariants as checkpoint
 use Rattle.mq_desk_laws.specs.Groups.{GroupView}
 use Rattle.mq_drive.specs.Steps.{PortFault}
 use Rattle.mq_drive.specs.declared.port.Port.{Ghosts}

@@ -10,7 +10,7 @@ use Rattle.mq_blocks.specs.Machine.{write_of}
 use Rattle.mq_blocks.specs.declared.geometry.Geometry.{Geometry}
 use Rattle.mq_blocks.proofs.JournalAmong.{among-contains}
 use Rattle.mq_blocks.proofs.Options.{option-cases}
-use Rattle.mq_checkpoint.specs.Steps.{IsKnownFrom}
+use Rattle.mq_journal.specs.Steps.{IsKnownFrom}
 use Rattle.mq_desk_laws.specs.Groups.{GroupView}
 use Rattle.mq_desk_laws.specs.Rule.{May, core_of, geometry_of, history_of, map_now, numbered, shape_of, start_of, touches}
 use Rattle.mq_desk_laws.specs.Values.{Values}

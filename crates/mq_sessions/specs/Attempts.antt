@@ -3,8 +3,8 @@ use Rattle.std.specs.Prelude.{◌≡◌, ◌<◌, ◌≤◌, ℕ, Bool, true, fa
 use Rattle.mq_blocks.specs.Drive.{PortState}
 use Rattle.mq_blocks.specs.Geometry.{area_of, write_limit}
 use Rattle.mq_blocks.specs.declared.geometry.Geometry.{Geometry}
-use Rattle.mq_checkpoint.specs.Raised.{Raises}
-use Rattle.mq_checkpoint.specs.Steps.{IsKnownFrom}
+use Rattle.mq_journal.specs.Raised.{Raises}
+use Rattle.mq_journal.specs.Steps.{IsKnownFrom}
 use Rattle.mq_desk_laws.specs.Groups.{GroupView}
 use Rattle.mq_desk_laws.specs.Rule.{IsSide, core_of, history_of, map_now, start_of}
 use Rattle.mq_drive.specs.Steps.{PortFault}

@@ -2,9 +2,9 @@
 use Rattle.std.specs.Prelude.{ℕ, List, Option, Some, None}
 use Rattle.mq_blocks.specs.Drive.{PortState}
 use Rattle.mq_blocks.specs.declared.geometry.Geometry.{Geometry}
-use Rattle.mq_checkpoint.specs.Raised.{HasRefused}
-use Rattle.mq_checkpoint.specs.declared.refusal.CheckpointRefusal.{CheckpointRefusal}
-use Rattle.mq_checkpoint.specs.declared.refusal.CheckpointRefusal.TheVariants as checkpoint
+use Rattle.mq_journal.specs.Raised.{HasRefused}
+use Rattle.mq_journal.specs.declared.refusal.CheckpointRefusal.{CheckpointRefusal}
+use Rattle.mq_journal.specs.declared.refusal.CheckpointRefusal.TheVariants as checkpoint
 use Rattle.mq_desk_laws.specs.Groups.{GroupView}
 use Rattle.mq_drive.specs.Steps.{PortFault}
 use Rattle.mq_drive.specs.declared.port.Port.{Ghosts}

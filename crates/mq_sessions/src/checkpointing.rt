@@ -1,7 +1,7 @@
 // A checkpoint that a session makes.
 ghost use Rattle.std.specs.Prelude.{◌≡◌, IfErr, IfOk, length};
 ghost use Rattle.mq_blocks.specs.Geometry.{homes_of, queues_of};
-ghost use Rattle.mq_checkpoint.specs.Raised.{HasRefused, Raises};
+ghost use Rattle.mq_journal.specs.Raised.{HasRefused, Raises};
 ghost use Rattle.mq_desk_laws.specs.Rule.{shape_of};
 ghost use Rattle.mq_journal.specs.Values.{side_values};
 ghost use Rattle.mq_turns.specs.AtDesk.{AtDesk, start_of, view};
@@ -10,9 +10,8 @@ ghost use Rattle.mq_sessions.specs.Calls.{IsReady};
 
 use crate::users::User;
 use mq_blocks::{Geometry, TxNo};
-use mq_checkpoint::CheckpointRefusal;
+use mq_journal::{CheckpointRefusal, Groups, JournalMachine};
 use mq_drive::Port;
-use mq_journal::{Groups, JournalMachine};
 use mq_turns::Desk;
 use std::alloc::Global;
 use std::sync::Wait;
@@ -45,5 +44,5 @@ pub fn checkpoint<P: Port + Drop, G: Groups, R: Wait>(
     ensures refused { IfErr result (λ why. HasRefused P.state P.faults G.group why
         (view session.old.chair) (view session.new.chair)) }
 {
-    mq_checkpoint::checkpoint(rt, alloc, geometry, desk, &mut session.chair)
+    mq_journal::checkpoint(rt, alloc, geometry, desk, &mut session.chair)
 }

@@ -1,4 +1,0 @@
-pub mod Steps
-pub mod Pages
-pub mod Ports
-pub mod Raised
