@@ -7,8 +7,8 @@ use Rattle.mq_ledger.specs.History.{change_of, changes}
 use Rattle.mq_ledger.specs.KnownJournal.{KnownJournal}
 use Rattle.mq_ledger.specs.declared.tx.Tx.{Tx}
 use Rattle.mq_core.proofs.KnownJournalGrowth.{front_low}
-use Rattle.mq_base_laws.specs.Pages.{last_ended}
-use Rattle.mq_base_laws.proofs.Pages.{due_last}
+use Rattle.mq_desk_laws.specs.Pages.{last_ended}
+use Rattle.mq_desk_laws.proofs.Pages.{due_last}
 use Rattle.mq_pages.specs.declared.page.PageCell.{PageCell}
 use Rattle.mq_turns.specs.Meaning.{drawn}
 use Rattle.mq_desk_laws.specs.Cells.{cell_after}

@@ -16,8 +16,8 @@ use Rattle.mq_ledger.proofs.HistoryQueues.{FromQueue-of}
 use Rattle.mq_core.proofs.HistoryFronts.{part_more, DoneMore, done_below}
 use Rattle.mq_core.proofs.HistoryBases.{at_append, next_upto_more, total_upto_more, covered}
 use Rattle.mq_core.proofs.KnownJournalGrowth.{front_low, moved_to, side_moved}
-use Rattle.mq_base_laws.proofs.HistoryNewer.{part_longer, upto_older}
-use Rattle.mq_base_laws.specs.Pages.{last_direct}
+use Rattle.mq_desk_laws.proofs.HistoryNewer.{part_longer, upto_older}
+use Rattle.mq_desk_laws.specs.Pages.{last_direct}
 
 abbrev pub Among : List Tx → Tx → Type 0
 Among [] t = ⊥

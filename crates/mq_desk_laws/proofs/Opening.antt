@@ -13,8 +13,8 @@ use Rattle.mq_ledger.specs.State.{State, Facts, known_of, no_port}
 use Rattle.mq_ledger.specs.Written.{journal_entries}
 use Rattle.mq_core.proofs.KnownJournalGrowth.{side_moved}
 use Rattle.mq_core.proofs.MachineFacts.{start_facts}
-use Rattle.mq_base_laws.specs.Bases.{BaseOk}
-use Rattle.mq_base_laws.proofs.BasesOpenings.{first_base}
+use Rattle.mq_desk_laws.specs.Bases.{BaseOk}
+use Rattle.mq_desk_laws.proofs.BasesOpenings.{first_base}
 use Rattle.mq_pages.specs.declared.page.PageCell.{PageCell}
 use Rattle.mq_turns.specs.Meaning.{opened}
 use Rattle.mq_turns.specs.declared.rule.Known.{Known}

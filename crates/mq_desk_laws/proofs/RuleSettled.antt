@@ -3,7 +3,7 @@ use Rattle.std.proofs.Common.{◌≡◌, ℕ, suc, ◌+◌, ◌≤◌, true, Lis
 use Rattle.mq_ledger.specs.History as ledger
 use Rattle.mq_ledger.specs.KnownJournal.{front}
 use Rattle.mq_ledger.specs.declared.tx.Tx.{Tx}
-use Rattle.mq_base_laws.proofs.Claims.{part_covers}
+use Rattle.mq_desk_laws.proofs.Claims.{part_covers}
 use Rattle.mq_turns.specs.Marks.{is_claimed}
 use Rattle.mq_turns.specs.Meaning.{HasNumberAt, newest}
 use Rattle.mq_desk_laws.specs.Groups.{GroupView}

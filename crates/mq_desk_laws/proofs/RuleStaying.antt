@@ -13,10 +13,10 @@ use Rattle.mq_ledger.specs.declared.tx.Tx.{Tx}
 use Rattle.mq_drive.specs.Steps.{PortFault}
 use Rattle.mq_core.proofs.HistoryFronts.{DoneMore}
 use Rattle.mq_core.proofs.KnownJournalGrowth.{log_drawn}
-use Rattle.mq_base_laws.specs.Bases.{BaseOk}
-use Rattle.mq_base_laws.specs.Grown.{HasGrown}
-use Rattle.mq_base_laws.specs.Pages.{due_by, is_ended, last_direct, last_ended}
-use Rattle.mq_base_laws.proofs.Bases.{base_later}
+use Rattle.mq_desk_laws.specs.Bases.{BaseOk}
+use Rattle.mq_desk_laws.specs.Grown.{HasGrown}
+use Rattle.mq_desk_laws.specs.Pages.{due_by, is_ended, last_direct, last_ended}
+use Rattle.mq_desk_laws.proofs.Bases.{base_later}
 use Rattle.mq_pages.specs.declared.page.PageCell.{PageCell}
 use Rattle.mq_turns.specs.Lists.{Each}
 use Rattle.mq_turns.specs.Marks.{is_claimed}

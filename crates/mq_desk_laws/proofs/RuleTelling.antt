@@ -8,13 +8,13 @@ use Rattle.mq_ledger.specs.KnownJournal.{KnownJournal, front}
 use Rattle.mq_ledger.specs.declared.tx.Tx.{Tx}
 use Rattle.mq_core.proofs.HistoryFronts.{DoneMore}
 use Rattle.mq_core.proofs.KnownJournalGrowth.{log_more, side_more}
-use Rattle.mq_base_laws.specs.Bases.{BaseOk}
-use Rattle.mq_base_laws.specs.Grown.{HasGrown}
-use Rattle.mq_base_laws.specs.Pages.{IsNumbered, IsToBring, WasBrought}
-use Rattle.mq_base_laws.proofs.Bases.{base_later}
-use Rattle.mq_base_laws.proofs.PagesHomeWrites.{home_number_with, grown_brought, log_brought}
-use Rattle.mq_base_laws.proofs.Pages.{numbered_of}
-use Rattle.mq_base_laws.proofs.BasesRoots.{grown_word, log_raised, stands_raised}
+use Rattle.mq_desk_laws.specs.Bases.{BaseOk}
+use Rattle.mq_desk_laws.specs.Grown.{HasGrown}
+use Rattle.mq_desk_laws.specs.Pages.{IsNumbered, IsToBring, WasBrought}
+use Rattle.mq_desk_laws.proofs.Bases.{base_later}
+use Rattle.mq_desk_laws.proofs.PagesHomeWrites.{home_number_with, grown_brought, log_brought}
+use Rattle.mq_desk_laws.proofs.Pages.{numbered_of}
+use Rattle.mq_desk_laws.proofs.BasesRoots.{grown_word, log_raised, stands_raised}
 use Rattle.mq_pages.specs.declared.page.PageCell.{PageCell}
 use Rattle.mq_turns.specs.Marks.{is_claimed}
 use Rattle.mq_turns.specs.Meaning.{Grows, newest, claimed, charged, raised, written}

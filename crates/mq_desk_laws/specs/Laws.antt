@@ -4,9 +4,9 @@ use Rattle.mq_ledger.specs.History.{writes, of_queue, IsAt}
 use Rattle.mq_ledger.specs.Items.{end_of, descriptor_blocks}
 use Rattle.mq_ledger.specs.KnownJournal.{front}
 use Rattle.mq_ledger.specs.declared.tx.Tx.{Tx}
-use Rattle.mq_base_laws.specs.Bases.{BaseOk}
-use Rattle.mq_base_laws.specs.Grown.{HasGrown}
-use Rattle.mq_base_laws.specs.Pages.{IsNumbered, IsToBring, WasBrought, known_after}
+use Rattle.mq_desk_laws.specs.Bases.{BaseOk}
+use Rattle.mq_desk_laws.specs.Grown.{HasGrown}
+use Rattle.mq_desk_laws.specs.Pages.{IsNumbered, IsToBring, WasBrought, known_after}
 use Rattle.mq_pages.specs.declared.page.PageCell.{PageCell}
 use Rattle.mq_turns.specs.Marks.{is_claimed}
 use Rattle.mq_turns.specs.Meaning as history

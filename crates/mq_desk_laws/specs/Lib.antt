@@ -6,3 +6,8 @@ pub mod Rule
 pub mod Meaning
 pub mod Opening
 pub mod Laws
+pub mod Grown
+pub mod Bases
+pub mod Pages
+pub mod Claims
+pub mod BaseLaws

@@ -12,8 +12,8 @@ use Rattle.mq_ledger.specs.Sides.{SideOk}
 use Rattle.mq_ledger.specs.State.{no_port}
 use Rattle.mq_ledger.specs.Written.{journal_entries}
 use Rattle.mq_ledger.specs.declared.tx.Tx.{Tx}
-use Rattle.mq_base_laws.specs.Bases.{BaseOk, RootStands}
-use Rattle.mq_base_laws.specs.Pages.{due_by, home_number}
+use Rattle.mq_desk_laws.specs.Bases.{BaseOk, RootStands}
+use Rattle.mq_desk_laws.specs.Pages.{due_by, home_number}
 use Rattle.mq_pages.specs.declared.page.PageCell.{PageCell}
 use Rattle.mq_turns.specs.Lists.{Each}
 use Rattle.mq_turns.specs.Marks.{is_claimed}

@@ -6,7 +6,7 @@ use Rattle.std.proofs.lemmas.Bool.{eq-eqb, eqb-true, false≢true, ne_eqb}
 use Rattle.mq_blocks.specs.Drive.{PortState}
 use Rattle.mq_blocks.specs.Geometry.{homes_of, home_lba, queues_of, zone_of}
 use Rattle.mq_blocks.specs.declared.geometry.Geometry.{Geometry}
-use Rattle.mq_base_laws.specs.Pages.{IsToBring}
+use Rattle.mq_desk_laws.specs.Pages.{IsToBring}
 use Rattle.mq_core.proofs.StateEvents.{zone-queue}
 use Rattle.mq_drive.specs.Steps.{PortFault}
 use Rattle.mq_drive.specs.declared.port.HomeStep.{HomeStep}

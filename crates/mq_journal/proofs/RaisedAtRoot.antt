@@ -3,8 +3,8 @@ use Rattle.std.proofs.Common.{◌≡◌, ℕ, ◌<◌, ◌≤◌, max, true, con
 use Rattle.std.specs.Prelude.{Bool, Some, Result, Ok, Err, OnOk, OnErr}
 use Rattle.std.proofs.lemmas.Bool.{eq-eqb}
 use Rattle.mq_blocks.specs.Drive.{PortState, IsBoundKept}
-use Rattle.mq_base_laws.specs.Bases.{BaseOk, RootStands}
-use Rattle.mq_base_laws.proofs.BasesRoots.{stands_flushed, stands_stored}
+use Rattle.mq_desk_laws.specs.Bases.{BaseOk, RootStands}
+use Rattle.mq_desk_laws.proofs.BasesRoots.{stands_flushed, stands_stored}
 use Rattle.mq_drive.specs.Faults.{AreMore, count_of}
 use Rattle.mq_drive.specs.Steps.{PortFault, Gains, PowerOff}
 use Rattle.mq_drive.specs.declared.port.Off.{Off}

@@ -6,10 +6,10 @@ use Rattle.mq_blocks.specs.Geometry.{homes_of, home_lba, zone_of}
 use Rattle.mq_blocks.specs.Ports.{IsPort}
 use Rattle.mq_blocks.specs.declared.geometry.Geometry.{Geometry}
 use Rattle.mq_blocks.proofs.GeometryZones.{zone-none, zone-row}
-use Rattle.mq_base_laws.specs.Bases.{BaseOk}
-use Rattle.mq_base_laws.specs.Pages.{IsToBring}
-use Rattle.mq_base_laws.proofs.Bases.{base_later}
-use Rattle.mq_base_laws.proofs.PagesHomeWrites.{grown_brought, log_brought, logged_last, root_brought, side_brought}
+use Rattle.mq_desk_laws.specs.Bases.{BaseOk}
+use Rattle.mq_desk_laws.specs.Pages.{IsToBring}
+use Rattle.mq_desk_laws.proofs.Bases.{base_later}
+use Rattle.mq_desk_laws.proofs.PagesHomeWrites.{grown_brought, log_brought, logged_last, root_brought, side_brought}
 use Rattle.mq_core.proofs.HomesWritten.{root_began, side_began}
 use Rattle.mq_core.specs.Events.{begin_home, end_home}
 use Rattle.mq_drive.specs.Faults.{AreMore, count_of}

@@ -1,7 +1,7 @@
 -- What a checkpoint has done once the base is raised.
 use Rattle.std.specs.Prelude.{◌≡◌, ◌⊎◌, ◌<◌, ◌≤◌, ℕ, List, [], ◌∷◌, ◌++◌}
 use Rattle.mq_blocks.specs.Drive.{PortState, IsBoundKept}
-use Rattle.mq_base_laws.specs.Bases.{BaseOk, RootStands}
+use Rattle.mq_desk_laws.specs.Bases.{BaseOk, RootStands}
 use Rattle.mq_drive.specs.Steps.{PortFault}
 use Rattle.mq_drive.specs.declared.port.Port.{Ghosts}
 use Rattle.mq_journal.specs.Numbers.{Seat, Shared, values}

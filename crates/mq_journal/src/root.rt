@@ -1,6 +1,6 @@
 // What a checkpoint does with the root.
 ghost use Rattle.std.specs.Prelude.{◌≡◌, ◌<◌, ◌≤◌, [], IfErr, IfOk, OnOk};
-ghost use Rattle.mq_base_laws.specs.Bases.{BaseOk};
+ghost use Rattle.mq_desk_laws.specs.Bases.{BaseOk};
 ghost use Rattle.mq_drive.specs.Steps.{OffCause};
 ghost use Rattle.mq_journal.specs.Numbers.{Shared, machine, values};
 ghost use Rattle.mq_desk_laws.specs.Rule.{core_of};

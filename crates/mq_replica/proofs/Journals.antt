@@ -9,8 +9,8 @@ use Rattle.mq_blocks.specs.Geometry.{homes_of, write_limit}
 use Rattle.mq_blocks.specs.Journal.{number_limit}
 use Rattle.mq_blocks.specs.Machine.{Writes}
 use Rattle.mq_blocks.specs.declared.geometry.Geometry.{Geometry}
-use Rattle.mq_base_laws.proofs.BasesOpenings.{base_due}
-use Rattle.mq_base_laws.specs.Bases.{BaseOk, RootStands}
+use Rattle.mq_desk_laws.proofs.BasesOpenings.{base_due}
+use Rattle.mq_desk_laws.specs.Bases.{BaseOk, RootStands}
 use Rattle.mq_core.proofs.KnownJournalGrowth.{log_drawn, root_drawn}
 use Rattle.mq_core.specs.Events.{HasRoom}
 use Rattle.mq_ledger.specs.History.{AreNumbered, blocks_of, of_queue}

@@ -5,7 +5,7 @@ use Rattle.mq_blocks.specs.Descriptor.{Descriptor, IsSound, journal_form}
 use Rattle.mq_blocks.specs.Drive.{PortState}
 use Rattle.mq_blocks.specs.Geometry.{homes_of}
 use Rattle.mq_blocks.specs.declared.geometry.Geometry.{Geometry}
-use Rattle.mq_base_laws.specs.Bases.{RootStands}
+use Rattle.mq_desk_laws.specs.Bases.{RootStands}
 use Rattle.mq_ledger.specs.History.{AreNumbered, map_after, of_queue, part_of, upto}
 use Rattle.mq_ledger.specs.Items.{end_of}
 use Rattle.mq_ledger.specs.KnownJournal.{LogOk}

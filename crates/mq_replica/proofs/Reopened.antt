@@ -6,7 +6,7 @@ use Rattle.mq_blocks.specs.Descriptor.{Descriptor}
 use Rattle.mq_blocks.specs.Drive.{PortState}
 use Rattle.mq_blocks.specs.Geometry.{homes_of}
 use Rattle.mq_blocks.specs.declared.geometry.Geometry.{Geometry}
-use Rattle.mq_base_laws.specs.Bases.{RootStands}
+use Rattle.mq_desk_laws.specs.Bases.{RootStands}
 use Rattle.mq_core.proofs.MachineFacts.{start_facts}
 use Rattle.mq_ledger.specs.KnownJournal.{LogOk}
 use Rattle.mq_ledger.specs.Sides.{RootOk, SideOk}
@@ -108,7 +108,7 @@ module _ (g : Geometry) (port root : PortState) (one : g.queues ≡ 1) (begin : 
   stands same = record {
     port = root_ok;
     flushed = base_is g blocks root.base port.doorbell [] log;
-    stored = subst (λ (b : ℕ). Rattle.mq_base_laws.specs.Bases.BaseOk k b) (sym same) (base_is g blocks root.base port.doorbell [] log);
+    stored = subst (λ (b : ℕ). Rattle.mq_desk_laws.specs.Bases.BaseOk k b) (sym same) (base_is g blocks root.base port.doorbell [] log);
   }
 
   -- a fresh side over its port, with the root

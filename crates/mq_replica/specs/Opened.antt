@@ -6,7 +6,7 @@ use Rattle.mq_blocks.specs.Drive.{PortState, image_of}
 use Rattle.mq_blocks.specs.Geometry.{homes_of}
 use Rattle.mq_blocks.specs.Machine.{Writes}
 use Rattle.mq_blocks.specs.declared.geometry.Geometry.{Geometry}
-use Rattle.mq_base_laws.specs.Bases.{RootStands}
+use Rattle.mq_desk_laws.specs.Bases.{RootStands}
 use Rattle.mq_drive.specs.Start.{HasWords}
 use Rattle.mq_drive.specs.Steps.{PortFault}
 use Rattle.mq_drive.specs.declared.role.Role.TheVariants.{Root}

@@ -19,7 +19,7 @@ use Rattle.mq_core.proofs.KnownJournalGrowth.{log_more, side_more, root_more}
 use Rattle.mq_core.proofs.MachineFacts.{lawful_from}
 use Rattle.mq_core.proofs.Roots.{root_based}
 use Rattle.mq_core.proofs.StateEvents.{zone-queue}
-use Rattle.mq_base_laws.specs.Bases.{BaseOk}
+use Rattle.mq_desk_laws.specs.Bases.{BaseOk}
 use Rattle.mq_state_laws.specs.Parts.{Parts, AreParts, AreMarks, known, state, state_with, least_marks}
 use Rattle.mq_state_laws.proofs.SidesDirects.{direct_home}
 use Rattle.mq_state_laws.proofs.PartsMarks.{marks_length, mark_least}

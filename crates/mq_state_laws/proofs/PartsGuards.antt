@@ -7,11 +7,11 @@ use Rattle.mq_ledger.specs.State.{front_of}
 use Rattle.mq_ledger.proofs.History.{last_upto_more}
 use Rattle.mq_core.specs.Events.{MayWriteHome, MayStoreBase}
 use Rattle.mq_core.specs.Homes.{IsLoggedLast}
-use Rattle.mq_base_laws.specs.Bases.{BaseOk}
+use Rattle.mq_desk_laws.specs.Bases.{BaseOk}
 use Rattle.mq_state_laws.specs.Parts.{Parts, AreParts, known, state, state_with}
 use Rattle.mq_state_laws.proofs.PartsAssembly.{front_reached, based_home}
-use Rattle.mq_base_laws.proofs.PagesHomeWrites.{above_base}
-use Rattle.mq_base_laws.proofs.BasesOpenings.{greater_base}
+use Rattle.mq_desk_laws.proofs.PagesHomeWrites.{above_base}
+use Rattle.mq_desk_laws.proofs.BasesOpenings.{greater_base}
 
 pub may_write_home : (p : Parts) (marks : List ℕ) → AreParts p → (x : ℕ) (content : List ℕ) → x < homes_of p.geometry → map_after (known p).start p.history x ≡ Some content → IsLoggedLast (known p) x → MayWriteHome (state_with marks p) x
 may_write_home p marks are x content inside there u =

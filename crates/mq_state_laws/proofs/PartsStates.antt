@@ -3,7 +3,7 @@ use Rattle.std.proofs.Common.{◌≡◌, ℕ, ◌≤◌, ◌||◌, true, refl, a
 use Rattle.std.proofs.lemmas.Bool.{eq-eqb, or_left, or_right}
 use Rattle.mq_ledger.specs.Items.{Entries}
 use Rattle.mq_ledger.specs.State.{State, Facts}
-use Rattle.mq_base_laws.proofs.BasesOpenings.{base_due}
+use Rattle.mq_desk_laws.proofs.BasesOpenings.{base_due}
 use Rattle.mq_state_laws.specs.Parts.{AreParts, AreMarks, parts_of}
 
 -- each state that has the facts is of such parts

@@ -17,8 +17,8 @@ use Rattle.mq_recover.specs.Images.{IsReadableImage}
 use Rattle.mq_recover.specs.Standing.{StandsIn}
 use Rattle.mq_recover.specs.Steps.{HasRecovered}
 use Rattle.mq_recover.specs.declared.standing.Standing.{Standing}
-use Rattle.mq_base_laws.specs.Bases.{BaseOk}
-use Rattle.mq_base_laws.specs.Pages.{IsToBring}
+use Rattle.mq_desk_laws.specs.Bases.{BaseOk}
+use Rattle.mq_desk_laws.specs.Pages.{IsToBring}
 use Rattle.mq_state_laws.specs.Found.{Finds, IsCutOf}
 use Rattle.mq_state_laws.specs.Parts.{Parts, AreParts, AreMarks, IsUndone, known, least_marks, parts_of, state, state_with, unmarked}
 

@@ -11,7 +11,7 @@ use Rattle.mq_ledger.specs.KnownJournal.{KnownJournal, LogOk, front}
 use Rattle.mq_ledger.specs.Sides.{SideOk}
 use Rattle.mq_ledger.specs.State.{State, from_at, is_done, port_at, start_map}
 use Rattle.mq_ledger.specs.declared.tx.Tx.{Tx}
-use Rattle.mq_base_laws.specs.Bases.{RootStands}
+use Rattle.mq_desk_laws.specs.Bases.{RootStands}
 
 pub record Parts : Type 0 where
   -- what is known, with the start map and the doorbells at the start as lists

@@ -4,7 +4,7 @@ use Rattle.mq_blocks.specs.Drive.{PortState}
 use Rattle.mq_blocks.specs.Journal.{is_among}
 use Rattle.mq_ledger.specs.KnownJournal.{front}
 use Rattle.mq_ledger.specs.Written.{journal_entries}
-use Rattle.mq_base_laws.specs.Pages.{due_by}
+use Rattle.mq_desk_laws.specs.Pages.{due_by}
 use Rattle.mq_state_laws.specs.Parts.{Parts}
 use Rattle.mq_turns.specs.Marks.{is_claimed}
 use Rattle.mq_desk_laws.specs.Groups.{GroupView}

@@ -1,4 +1,4 @@
-use Rattle.mq_base_laws.proofs.PagesHomeWrites.{logged_last}
+use Rattle.mq_desk_laws.proofs.PagesHomeWrites.{logged_last}
 use Rattle.mq_state_laws.specs.Parts.{known}
 use Rattle.mq_state_laws.proofs.PartsGuards.{may_store_base, may_write_home}
 use Rattle.mq_state_laws.proofs.laws.parts_allow_home_writes_and_bases.Goals as goal

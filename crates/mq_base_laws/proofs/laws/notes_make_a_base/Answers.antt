@@ -1,5 +1,0 @@
-use Rattle.mq_base_laws.proofs.Pages.{raise}
-use Rattle.mq_base_laws.proofs.laws.notes_make_a_base.Goals as goal
-
-pub returns : goal.returns
-returns c = λ k b log low reached each. raise k b log low reached each

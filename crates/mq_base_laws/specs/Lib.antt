@@ -1,5 +1,0 @@
-pub mod Grown
-pub mod Bases
-pub mod Pages
-pub mod Claims
-pub mod Laws
