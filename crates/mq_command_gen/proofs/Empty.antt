@@ -10,8 +10,8 @@ use Rattle.mq_blocks.specs.Journal.{AreWhole, Has, IsQueueChain, IsTop, WriteFie
 use Rattle.mq_blocks.specs.declared.geometry.Geometry.{Geometry}
 use Rattle.mq_layout.specs.Empty.{empty_block}
 use Rattle.mq_layout.proofs.EmptyLaws.{empty-zeros}
-use Rattle.mq_history.specs.Cuts.{Starts}
-use Rattle.mq_history.proofs.CutsStarting.{no_chains}
+use Rattle.mq_run_laws.specs.Cuts.{Starts}
+use Rattle.mq_run_laws.proofs.CutsStarting.{no_chains}
 use Rattle.mq_recover.specs.Recovery.{IsReadPrefix}
 use Rattle.mq_recover.proofs.DrivesImages.{read-same}
 use Rattle.mq_tree.specs.Empty.{empty_volume}

@@ -8,11 +8,11 @@ use Rattle.mq_blocks.specs.Journal.{Shown}
 use Rattle.mq_blocks.specs.declared.geometry.Geometry.{Geometry}
 use Rattle.mq_queue_side.specs.declared.answers.Refusal.{Refusal}
 use Rattle.mq_command_gen.specs.Generated.{AreGood, EndDurable}
-use Rattle.mq_history.specs.Answers.{AreAnswered, IsAcknowledged, IsLineOf, IsOf, Names, is_good, number_in}
-use Rattle.mq_history.specs.Cuts.{HasEntries, HasShare, IsCut, IsRung, is_on}
-use Rattle.mq_history.specs.Groups.{IsGroup, group_at, groups_of}
-use Rattle.mq_history.specs.Legal.{IsLegal, newest, next}
-use Rattle.mq_history.proofs.LawsSpelled.{has-script}
+use Rattle.mq_run_laws.specs.Answers.{AreAnswered, IsAcknowledged, IsLineOf, IsOf, Names, is_good, number_in}
+use Rattle.mq_run_laws.specs.Cuts.{HasEntries, HasShare, IsCut, IsRung, is_on}
+use Rattle.mq_run_laws.specs.Groups.{IsGroup, group_at, groups_of}
+use Rattle.mq_run_laws.specs.Legal.{IsLegal, newest, next}
+use Rattle.mq_run_laws.proofs.LawsSpelled.{has-script}
 use Rattle.mq_run_laws.proofs.Pairs.{cons-cases, here, in-right, none-in, pairs-head, pairs-tail, there}
 use Rattle.mq_report.specs.Lines.{Line}
 use Rattle.mq_report.specs.Sessions.{ends_session}

@@ -20,10 +20,10 @@ use Rattle.mq_image_ops.specs.Standing.{StandsFor}
 use Rattle.mq_image_ops.specs.Views.{view_of}
 use Rattle.mq_image_ops.proofs.Views.{queue-in}
 use Rattle.mq_image_ops.proofs.StandingVolumes.{stands-once}
-use Rattle.mq_history.specs.Cuts.{HasEntries, IsCut, IsRung, ShowsVolume}
-use Rattle.mq_history.specs.Histories.{AreOfBytes}
-use Rattle.mq_history.specs.Legal.{IsLegal, newest, volume_at}
-use Rattle.mq_history.proofs.CutsNextRun.{goes-on}
+use Rattle.mq_run_laws.specs.Cuts.{HasEntries, IsCut, IsRung, ShowsVolume}
+use Rattle.mq_run_laws.specs.Histories.{AreOfBytes}
+use Rattle.mq_run_laws.specs.Legal.{IsLegal, newest, volume_at}
+use Rattle.mq_run_laws.proofs.CutsNextRun.{goes-on}
 use Rattle.mq_run_laws.specs.Images.{KeepsPromise, RunsKeepTheirPromise}
 use Rattle.mq_report.specs.Lines.{Line}
 use Rattle.mq_script.specs.Scripts.{Script}

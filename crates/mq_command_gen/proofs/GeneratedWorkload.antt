@@ -6,8 +6,8 @@ use Rattle.std.proofs.lemmas.Bool.{eq-eqb}
 use Rattle.rand_pcg.specs.Lcg.{Lcg}
 use Rattle.rand_pcg.specs.Pcg.{pcg64}
 use Rattle.mq_command_gen.specs.Generated.{EndDurable}
-use Rattle.mq_history.specs.Histories.{AreOfBytes}
-use Rattle.mq_history.proofs.LawsSpelled.{filled-bytes}
+use Rattle.mq_run_laws.specs.Histories.{AreOfBytes}
+use Rattle.mq_run_laws.proofs.LawsSpelled.{filled-bytes}
 use Rattle.mq_script.specs.Scripts.{Group}
 use Rattle.mq_script.specs.Workloads.{end_of, groups_from, requests_of, script_of, scripts_from, workload_of, writing}
 use Rattle.mq_script.specs.declared.group.End.TheVariants.{Fatomic, Fsync}

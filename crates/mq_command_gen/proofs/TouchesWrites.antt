@@ -7,7 +7,7 @@ use Rattle.mq_blocks.specs.Geometry.{homes_of, meta_of}
 use Rattle.mq_blocks.specs.declared.geometry.Geometry.{Geometry}
 use Rattle.mq_command_gen.proofs.Touches.{Touches, TouchesFew}
 use Rattle.mq_exec.specs.Moves.{IsWritten}
-use Rattle.mq_history.specs.Legal.{Writes}
+use Rattle.mq_run_laws.specs.Legal.{Writes}
 use Rattle.mq_inodes.proofs.ChangesRegions.{shown-in, shows-in}
 use Rattle.mq_pages.specs.declared.page.Write.{Write}
 use Rattle.mq_run_laws.proofs.Pairs.{cons-cases, here, in-left, in-right, none-in, pairs-head, pairs-tail, there}

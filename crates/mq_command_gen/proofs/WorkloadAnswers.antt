@@ -16,11 +16,11 @@ use Rattle.mq_command_gen.specs.Generated.{IsForMemory, IsPlayed, IsShape, Workl
 use Rattle.mq_command_gen.proofs.GeneratedWorkload.{workload-bytes, workload-count}
 use Rattle.mq_command_gen.proofs.TouchesRequests.{AreSmall, group-touches}
 use Rattle.mq_command_gen.proofs.TouchesWrites.{few-writes}
-use Rattle.mq_history.specs.Answers.{IsCause, IsLarge, group_told}
-use Rattle.mq_history.specs.Groups.{IsGroup, group_at}
-use Rattle.mq_history.specs.Histories.{AreOfBytes}
-use Rattle.mq_history.specs.Legal.{IsRun, group_of, next, volume_at}
-use Rattle.mq_history.proofs.LawsSpelled.{filled-bytes, has-script}
+use Rattle.mq_run_laws.specs.Answers.{IsCause, IsLarge, group_told}
+use Rattle.mq_run_laws.specs.Groups.{IsGroup, group_at}
+use Rattle.mq_run_laws.specs.Histories.{AreOfBytes}
+use Rattle.mq_run_laws.specs.Legal.{IsRun, group_of, next, volume_at}
+use Rattle.mq_run_laws.proofs.LawsSpelled.{filled-bytes, has-script}
 use Rattle.mq_image_run.specs.declared.ran.ImageRun.{ImageRun}
 use Rattle.mq_report.specs.Lines.{Line}
 use Rattle.mq_report.specs.declared.line.Told.{Told}

@@ -14,10 +14,10 @@ use Rattle.mq_image_run.specs.declared.options.RunOptions.{RunOptions}
 use Rattle.mq_image_run.specs.declared.ran.ImageRun.{ImageRun}
 use Rattle.mq_image_ops.specs.Empty.{IsEmptyDrive}
 use Rattle.mq_image_ops.specs.Views.{view_of}
-use Rattle.mq_history.specs.Answers.{IsLineOf, is_good}
-use Rattle.mq_history.specs.Cuts.{HasEntries, ShowsVolume}
-use Rattle.mq_history.specs.Groups.{IsGroup, group_at, groups_of}
-use Rattle.mq_history.specs.Legal.{IsLegal, newest, volume_at}
+use Rattle.mq_run_laws.specs.Answers.{IsLineOf, is_good}
+use Rattle.mq_run_laws.specs.Cuts.{HasEntries, ShowsVolume}
+use Rattle.mq_run_laws.specs.Groups.{IsGroup, group_at, groups_of}
+use Rattle.mq_run_laws.specs.Legal.{IsLegal, newest, volume_at}
 use Rattle.mq_recover.specs.Recovery.{IsReadPrefix}
 use Rattle.mq_report.specs.Lines.{Line}
 use Rattle.mq_report.specs.declared.line.Told.{Told}

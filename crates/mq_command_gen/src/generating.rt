@@ -4,7 +4,7 @@ ghost use Rattle.mq_command_gen.specs.Generated.{IsGenerated};
 ghost use Rattle.mq_image.specs.Drives.{IsDrive};
 ghost use Rattle.mq_image.specs.File.{image_bytes};
 ghost use Rattle.mq_image_ops.specs.Standing.{StandsFor};
-ghost use Rattle.mq_history.specs.Legal.{newest as newest_of};
+ghost use Rattle.mq_run_laws.specs.Legal.{newest as newest_of};
 ghost use Rattle.mq_tree.specs.Counts.{counts_in};
 ghost use Rattle.mq_tree.specs.Volume.{Volume};
 

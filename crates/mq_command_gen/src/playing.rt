@@ -2,7 +2,7 @@
 ghost use Rattle.std.specs.Prelude.{◌≡◌, ◌≤◌, true, IfErr, IfOk, length};
 ghost use Rattle.mq_blocks.specs.Geometry.{queues_of};
 ghost use Rattle.mq_command_gen.specs.Generated.{AreForMemory, AreGood, IsForMemory, IsPlayed, IsWanting};
-ghost use Rattle.mq_history.specs.Answers.{is_good};
+ghost use Rattle.mq_run_laws.specs.Answers.{is_good};
 ghost use Rattle.mq_run_laws.specs.Complete.{HaveWanted};
 
 use mq_blocks::{Geometry, OutOfMemory};

@@ -21,9 +21,9 @@ use Rattle.mq_image_run.specs.Refusals as refusals
 use Rattle.mq_image_run.specs.Runs.{IsRunOf}
 use Rattle.mq_image_run.specs.declared.options.RunOptions.{RunOptions}
 use Rattle.mq_image_run.specs.declared.ran.ImageRun.{ImageRun}
-use Rattle.mq_history.specs.Cuts.{Starts}
-use Rattle.mq_history.specs.Laws.{AreSpelled}
-use Rattle.mq_history.proofs.LawsSpelled.{spelled-bytes}
+use Rattle.mq_run_laws.specs.Cuts.{Starts}
+use Rattle.mq_run_laws.specs.HistoryLaws.{AreSpelled}
+use Rattle.mq_run_laws.proofs.LawsSpelled.{spelled-bytes}
 use Rattle.mq_report_laws.proofs.Images.{may-be-reported}
 use Rattle.mq_run_laws.specs.Images.{KeepsPromise}
 use Rattle.mq_run_laws.proofs.Images.{keeps-promise}

@@ -3,7 +3,7 @@ use Rattle.std.proofs.Common.{subst}
 use Rattle.std.specs.Prelude.{List}
 use Rattle.std.specs.List.{AllPairs}
 use Rattle.mq_drive.specs.Emu.{emu_faults, emu_state}
-use Rattle.mq_history.specs.Histories.{AreOfBytes}
+use Rattle.mq_run_laws.specs.Histories.{AreOfBytes}
 use Rattle.mq_image.specs.File.{DriveImage}
 use Rattle.mq_image_run.specs.Drives.{emu_ghosts}
 use Rattle.mq_image_run.specs.Runs.{IsRunOf}

@@ -8,8 +8,8 @@ use Rattle.std.proofs.lemmas.List.{length-drop, length-take}
 use Rattle.std.proofs.lemmas.List.Elements.{All-cons, All-drop, All-head, All-nil, All-tail, All-take}
 use Rattle.mq_blocks.specs.Geometry.{queues_of}
 use Rattle.mq_blocks.specs.declared.geometry.Geometry.{Geometry}
-use Rattle.mq_history.specs.Histories.{AreOfBytes}
-use Rattle.mq_history.specs.Legal.{IsRun, group_of, next}
+use Rattle.mq_run_laws.specs.Histories.{AreOfBytes}
+use Rattle.mq_run_laws.specs.Legal.{IsRun, group_of, next}
 use Rattle.mq_layout.proofs.Names.{name-right}
 use Rattle.mq_layout.specs.Names.{is_name}
 use Rattle.mq_layout.specs.Slots.{Entry}

@@ -21,7 +21,7 @@ use Rattle.mq_file_entries.specs.declared.entry.FileEntry.{FileEntry}
 use Rattle.mq_journal.specs.Draining.{answer_upto}
 use Rattle.mq_journal.specs.Numbers.{Seat, Shared}
 use Rattle.mq_journal.specs.Sweeping.{NamesUpto, WasRefused}
-use Rattle.mq_history.specs.Answers.{IsLate, IsLatePort, MayRefuseAsk}
+use Rattle.mq_run_laws.specs.Answers.{IsLate, IsLatePort, MayRefuseAsk}
 use Rattle.mq_report.specs.declared.line.Line.{Line}
 use Rattle.mq_report.specs.declared.line.Told.{Told}
 use Rattle.mq_run.specs.Playing.{Comes, IsNotDone, Plays, TellsOfChanges, begins, goes, serves, call_at}

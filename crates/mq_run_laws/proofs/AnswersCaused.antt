@@ -19,10 +19,10 @@ use Rattle.mq_file_entries.specs.declared.entry.FileEntry.{FileEntry}
 use Rattle.mq_journal.specs.Numbers.{Shared}
 use Rattle.mq_journal.specs.Values.{side_values}
 use Rattle.mq_journal.specs.Machine.{journal}
-use Rattle.mq_history.proofs.Histories.{asks-on, lines-at, lines-newest}
-use Rattle.mq_history.specs.Answers.{HasSeen, IsCause, IsCaused, IsLarge, IsLate, IsPortCause, group_told}
-use Rattle.mq_history.specs.Histories.{AreOfBytes, map_after}
-use Rattle.mq_history.specs.Legal.{Writes, volume_at}
+use Rattle.mq_run_laws.proofs.Histories.{asks-on, lines-at, lines-newest}
+use Rattle.mq_run_laws.specs.Answers.{HasSeen, IsCause, IsCaused, IsLarge, IsLate, IsPortCause, group_told}
+use Rattle.mq_run_laws.specs.Histories.{AreOfBytes, map_after}
+use Rattle.mq_run_laws.specs.Legal.{Writes, volume_at}
 use Rattle.mq_recover.specs.declared.standing.Standing.{Standing}
 use Rattle.mq_report.specs.declared.line.Line.{Line}
 use Rattle.mq_report.specs.declared.line.Told.{Told}

@@ -14,7 +14,7 @@ use Rattle.mq_file_entries.specs.declared.entry.FileEntry.{FileEntry}
 use Rattle.mq_ledger.specs.KnownJournal.{front}
 use Rattle.mq_journal.specs.Numbers.{Shared}
 use Rattle.mq_journal.specs.Values.{side_values}
-use Rattle.mq_history.specs.Answers.{IsAcknowledged, number_in}
+use Rattle.mq_run_laws.specs.Answers.{IsAcknowledged, number_in}
 use Rattle.mq_recover.specs.declared.standing.Standing.{Standing}
 use Rattle.mq_report.specs.declared.line.Line.{Line}
 use Rattle.mq_desk_laws.specs.Rule.{core_of}

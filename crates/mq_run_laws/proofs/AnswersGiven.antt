@@ -11,8 +11,8 @@ use Rattle.mq_turns.proofs.Meaning.{at_bounds}
 use Rattle.mq_drive.specs.Steps.{PortFault}
 use Rattle.mq_drive.specs.declared.port.Port.{Ghosts}
 use Rattle.mq_drive.specs.declared.port.Ports.{Ports}
-use Rattle.mq_history.specs.Answers.{AreAnswered, IsOf, IsPrefixAnswered, Names, group_told, is_good, number_in}
-use Rattle.mq_history.specs.Groups.{IsGroup}
+use Rattle.mq_run_laws.specs.Answers.{AreAnswered, IsOf, IsPrefixAnswered, Names, group_told, is_good, number_in}
+use Rattle.mq_run_laws.specs.Groups.{IsGroup}
 use Rattle.mq_recover.specs.declared.standing.Standing.{Standing}
 use Rattle.mq_report.specs.declared.line.Line.{Line}
 use Rattle.mq_report.specs.declared.line.Told.{Told}

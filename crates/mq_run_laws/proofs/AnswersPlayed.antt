@@ -14,8 +14,8 @@ use Rattle.mq_drive.specs.declared.port.Port.{Ghosts}
 use Rattle.mq_file_entries.specs.Entries.{written_by}
 use Rattle.mq_file_entries.specs.declared.entry.FileEntry.{FileEntry}
 use Rattle.mq_journal.specs.Numbers.{Seat, Shared, reported}
-use Rattle.mq_history.specs.Answers.{is_good, number_in}
-use Rattle.mq_history.specs.Histories.{WritesNothing}
+use Rattle.mq_run_laws.specs.Answers.{is_good, number_in}
+use Rattle.mq_run_laws.specs.Histories.{WritesNothing}
 use Rattle.mq_report.specs.declared.line.Line.{Line}
 use Rattle.mq_report.specs.declared.line.Told.{Told}
 use Rattle.mq_run.specs.Lines.{end_of}

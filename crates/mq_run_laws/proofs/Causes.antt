@@ -37,9 +37,9 @@ use Rattle.mq_image_ops.specs.declared.ports.Failing.{Failing}
 use Rattle.mq_image_ops.proofs.Views.{start-queue}
 use Rattle.mq_journal.specs.Draining.{report_of}
 use Rattle.mq_ledger.specs.State.{no_port, port_at}
-use Rattle.mq_history.specs.Answers.{IsErrorOf, IsPortCause, IsUndone}
-use Rattle.mq_history.specs.Cuts.{IsCut}
-use Rattle.mq_history.specs.Histories.{AreOfBytes}
+use Rattle.mq_run_laws.specs.Answers.{IsErrorOf, IsPortCause, IsUndone}
+use Rattle.mq_run_laws.specs.Cuts.{IsCut}
+use Rattle.mq_run_laws.specs.Histories.{AreOfBytes}
 use Rattle.mq_recover.specs.Drives.{AreBoundsKept, ArePorts, DriveFaults, DriveState, drive_of, faults_on}
 use Rattle.mq_recover.specs.Recovery.{IsReadPrefix}
 use Rattle.mq_journal.specs.declared.refusal.CheckpointRefusal.{CheckpointRefusal}

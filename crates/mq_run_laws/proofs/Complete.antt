@@ -10,11 +10,11 @@ use Rattle.mq_queue_side.specs.declared.answers.CallCause.TheVariants.{Changes, 
 use Rattle.mq_queue_side.specs.declared.answers.Refusal.{Refusal}
 use Rattle.mq_drive.specs.Steps.{PortFault}
 use Rattle.mq_drive.specs.declared.emu.EmuPort.{EmuPort}
-use Rattle.mq_history.specs.Answers.{AreAnswered, AreCaused, IsCause, IsLarge, IsLate, IsOf, IsRefusedFor, group_told}
-use Rattle.mq_history.specs.Cuts.{IsClean}
-use Rattle.mq_history.specs.Groups.{IsGroup, groups_of}
-use Rattle.mq_history.specs.Legal.{newest}
-use Rattle.mq_history.proofs.LegalFacts.{count-once}
+use Rattle.mq_run_laws.specs.Answers.{AreAnswered, AreCaused, IsCause, IsLarge, IsLate, IsOf, IsRefusedFor, group_told}
+use Rattle.mq_run_laws.specs.Cuts.{IsClean}
+use Rattle.mq_run_laws.specs.Groups.{IsGroup, groups_of}
+use Rattle.mq_run_laws.specs.Legal.{newest}
+use Rattle.mq_run_laws.proofs.LegalFacts.{count-once}
 use Rattle.mq_image.specs.File.{DriveImage}
 use Rattle.mq_image_ops.specs.Views.{view_of}
 use Rattle.mq_image_run.specs.Endings.{limit_of}

@@ -25,11 +25,11 @@ use Rattle.mq_ledger.specs.History as ledger
 use Rattle.mq_ledger.specs.KnownJournal.{front}
 use Rattle.mq_ledger.specs.State as machine
 use Rattle.mq_ledger.specs.State.{State, port_at}
-use Rattle.mq_history.proofs.Histories.{lines-at, lines-newest}
-use Rattle.mq_history.proofs.HistoriesLogs.{log-map}
-use Rattle.mq_history.specs.Cuts.{IsCut}
-use Rattle.mq_history.specs.Histories.{AreOfBytes, map_after}
-use Rattle.mq_history.proofs.CutsNextRun.{home-of}
+use Rattle.mq_run_laws.proofs.Histories.{lines-at, lines-newest}
+use Rattle.mq_run_laws.proofs.HistoriesLogs.{log-map}
+use Rattle.mq_run_laws.specs.Cuts.{IsCut}
+use Rattle.mq_run_laws.specs.Histories.{AreOfBytes, map_after}
+use Rattle.mq_run_laws.proofs.CutsNextRun.{home-of}
 use Rattle.mq_recover.specs.Drives.{AreImages, drive_of}
 use Rattle.mq_recover.specs.Recovery.{IsReadPrefix}
 use Rattle.mq_recover.specs.declared.standing.Standing.{Standing}

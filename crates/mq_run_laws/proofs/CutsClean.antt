@@ -21,9 +21,9 @@ use Rattle.mq_ledger.specs.History.{of_queue, upto}
 use Rattle.mq_ledger.proofs.History.{upto-at}
 use Rattle.mq_ledger.specs.Items.{end_of}
 use Rattle.mq_ledger.specs.State.{port_at}
-use Rattle.mq_history.proofs.Histories.{lines-newest}
-use Rattle.mq_history.specs.Cuts.{IsClean}
-use Rattle.mq_history.specs.Legal.{newest}
+use Rattle.mq_run_laws.proofs.Histories.{lines-newest}
+use Rattle.mq_run_laws.specs.Cuts.{IsClean}
+use Rattle.mq_run_laws.specs.Legal.{newest}
 use Rattle.mq_recover.specs.Drives.{AreImages, drive_of}
 use Rattle.mq_recover.specs.Recovery.{IsReadPrefix}
 use Rattle.mq_recover.specs.declared.standing.Standing.{Standing}

@@ -30,7 +30,7 @@ use Rattle.mq_ledger.specs.Items.{descriptor_blocks, end_of}
 use Rattle.mq_ledger.specs.State as machine
 use Rattle.mq_ledger.specs.State.{State, no_port, port_at}
 use Rattle.mq_ledger.specs.declared.tx.Tx.{Tx}
-use Rattle.mq_history.specs.Answers.{IsPortCause, IsUndone}
+use Rattle.mq_run_laws.specs.Answers.{IsPortCause, IsUndone}
 use Rattle.mq_pmr.specs.Queue.{times}
 use Rattle.mq_recover.specs.Drives.{AreImages, drive_of}
 use Rattle.mq_recover.specs.Recovery.{IsReadPrefix}

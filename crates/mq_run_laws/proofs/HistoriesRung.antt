@@ -22,9 +22,9 @@ use Rattle.mq_ledger.specs.History.{of_queue}
 use Rattle.mq_ledger.specs.Items.{below, end_of}
 use Rattle.mq_ledger.specs.State.{no_port, port_at}
 use Rattle.mq_ledger.specs.declared.tx.Tx.{Tx}
-use Rattle.mq_history.specs.Answers.{IsOf, is_good}
-use Rattle.mq_history.specs.Cuts.{IsRung, is_on}
-use Rattle.mq_history.specs.Histories.{AreOfBytes}
+use Rattle.mq_run_laws.specs.Answers.{IsOf, is_good}
+use Rattle.mq_run_laws.specs.Cuts.{IsRung, is_on}
+use Rattle.mq_run_laws.specs.Histories.{AreOfBytes}
 use Rattle.mq_recover.specs.Drives.{drive_of}
 use Rattle.mq_recover.specs.declared.standing.Standing.{Standing}
 use Rattle.mq_report.specs.declared.line.Line.{Line}

@@ -18,10 +18,10 @@ use Rattle.mq_file_entries.specs.declared.entry.FileEntry.{FileEntry}
 use Rattle.mq_ledger.specs.History.{IsAt, change_of, of_queue, writes}
 use Rattle.mq_ledger.specs.Items.{below, descriptor_blocks, end_of, further_blocks, total}
 use Rattle.mq_ledger.specs.declared.tx.Tx.{Tx}
-use Rattle.mq_history.proofs.Histories.{history-changes, history-laid, stays-on}
-use Rattle.mq_history.specs.Cuts.{HasEntries, HasShare, is_on}
-use Rattle.mq_history.specs.Histories.{AreLinesOf, none, commit, read, AreOfBytes, IsCommitOf, TellsOf, map_after}
-use Rattle.mq_history.specs.Legal.{Writes, next}
+use Rattle.mq_run_laws.proofs.Histories.{history-changes, history-laid, stays-on}
+use Rattle.mq_run_laws.specs.Cuts.{HasEntries, HasShare, is_on}
+use Rattle.mq_run_laws.specs.Histories.{AreLinesOf, none, commit, read, AreOfBytes, IsCommitOf, TellsOf, map_after}
+use Rattle.mq_run_laws.specs.Legal.{Writes, next}
 use Rattle.mq_pages.specs.declared.page.Write.{Write}
 use Rattle.mq_report.specs.Lines.{Line}
 use Rattle.mq_desk_laws.specs.Rule.{IsLegalHistory, history, numbered}

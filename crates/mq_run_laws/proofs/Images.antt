@@ -13,8 +13,8 @@ use Rattle.mq_image_run.specs.declared.options.RunOptions.{RunOptions}
 use Rattle.mq_image_run.specs.declared.ran.ImageRun.{ImageRun}
 use Rattle.mq_image_ops.specs.Cuts.{row_of}
 use Rattle.mq_image_ops.specs.declared.ports.Failing.{Failing}
-use Rattle.mq_history.specs.Answers.{AreCaused, IsPortCause}
-use Rattle.mq_history.specs.Histories.{AreOfBytes}
+use Rattle.mq_run_laws.specs.Answers.{AreCaused, IsPortCause}
+use Rattle.mq_run_laws.specs.Histories.{AreOfBytes}
 use Rattle.mq_report.specs.declared.line.Told.{Told}
 use Rattle.mq_script.specs.Scripts.{Script}
 use Rattle.mq_queue_side.specs.declared.answers.Cause.{Cause}

@@ -30,3 +30,15 @@ pub mod CausesEnds
 pub mod Complete
 pub mod SumsImages
 pub mod Images
+pub mod CutsNextRun
+pub mod CutsStarting
+pub mod Histories
+pub mod HistoriesLogs
+pub mod Laid
+pub mod LaidMaps
+pub mod LaidTiles
+pub mod LawsSpelled
+pub mod LegalFacts
+pub mod LegalMoving
+pub mod MovesQuiet
+pub mod SmallRun

@@ -10,7 +10,7 @@ use Rattle.mq_blocks.specs.declared.geometry.Geometry.{Geometry}
 use Rattle.mq_file_entries.specs.Entries.{tx_of}
 use Rattle.mq_file_entries.specs.declared.entry.FileEntry.{FileEntry}
 use Rattle.mq_ledger.specs.History.{change_of}
-use Rattle.mq_history.specs.Histories.{AreLinesOf, none, commit, read, IsCommitOf, IsReadOf, map_after}
+use Rattle.mq_run_laws.specs.Histories.{AreLinesOf, none, commit, read, IsCommitOf, IsReadOf, map_after}
 use Rattle.mq_report.specs.Lines.{Line}
 use Rattle.mq_run.specs.Lines.{IsNotAfter}
 use Rattle.mq_run.proofs.Rings.{not-after}

@@ -10,8 +10,8 @@ use Rattle.mq_blocks.specs.declared.geometry.Geometry.{Geometry}
 use Rattle.mq_file_entries.specs.Entries.{Does, tx_of}
 use Rattle.mq_file_entries.specs.declared.entry.FileEntry.{FileEntry}
 use Rattle.mq_ledger.specs.History.{change_of}
-use Rattle.mq_history.specs.Groups.{IsGroup, group_at, groups_of}
-use Rattle.mq_history.specs.Histories.{AllDo, map_after}
+use Rattle.mq_run_laws.specs.Groups.{IsGroup, group_at, groups_of}
+use Rattle.mq_run_laws.specs.Histories.{AllDo, map_after}
 use Rattle.mq_report.specs.declared.line.Line.{Line}
 use Rattle.mq_run.specs.Lines.{AreCommitLines, IsCommitLine}
 use Rattle.mq_run.specs.Lines.AreCommitLines.{none, more}

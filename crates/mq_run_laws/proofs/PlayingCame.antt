@@ -21,8 +21,8 @@ use Rattle.mq_file_entries.specs.Group.{file_group}
 use Rattle.mq_file_entries.specs.declared.entry.FileEntry.{FileEntry}
 use Rattle.mq_journal.specs.Draining.{report_of}
 use Rattle.mq_journal.specs.Numbers.{Seat, Shared, reported}
-use Rattle.mq_history.specs.Answers.{is_good, number_in}
-use Rattle.mq_history.specs.Histories.{WritesNothing}
+use Rattle.mq_run_laws.specs.Answers.{is_good, number_in}
+use Rattle.mq_run_laws.specs.Histories.{WritesNothing}
 use Rattle.mq_report.specs.declared.line.Line.{Line}
 use Rattle.mq_run.specs.Lines.{end_of}
 use Rattle.mq_run.specs.Playing.{Comes, IsDone, IsNotDone, IsReadLine, call_at, is_durable}

@@ -12,7 +12,7 @@ use Rattle.mq_image_ops.specs.Recovering.{EndsAs}
 use Rattle.mq_image_ops.specs.Views.{view_of}
 use Rattle.mq_ledger.specs.State.{IsLawful, Recovers, State}
 use Rattle.mq_ledger.specs.Written.{journal_entries}
-use Rattle.mq_history.specs.Cuts.{ShowsVolume}
+use Rattle.mq_run_laws.specs.Cuts.{ShowsVolume}
 use Rattle.mq_recover.specs.Drives.{DriveState, view_over}
 use Rattle.mq_recover.specs.Recovery.{IsReadPrefix, IsStartDrive}
 use Rattle.mq_recover.proofs.DrivesImages.{reaches-same, read-reaches, read-same, whole-readable}

@@ -20,11 +20,11 @@ use Rattle.mq_file_entries.specs.declared.entry.FileEntry.{FileEntry}
 use Rattle.mq_journal.specs.Numbers.{Seat, Shared, Start}
 use Rattle.mq_journal.specs.Values.{side_values}
 use Rattle.mq_journal.specs.Machine.{journal}
-use Rattle.mq_history.proofs.Histories.{lines-run}
-use Rattle.mq_history.proofs.HistoriesLogs.{log-does, log-map}
-use Rattle.mq_history.specs.Groups.{IsGroup, group_at}
-use Rattle.mq_history.specs.Histories.{AllDo, AreLinesOf, AreOfBytes, map_after}
-use Rattle.mq_history.specs.Legal.{IsLegal}
+use Rattle.mq_run_laws.proofs.Histories.{lines-run}
+use Rattle.mq_run_laws.proofs.HistoriesLogs.{log-does, log-map}
+use Rattle.mq_run_laws.specs.Groups.{IsGroup, group_at}
+use Rattle.mq_run_laws.specs.Histories.{AllDo, AreLinesOf, AreOfBytes, map_after}
+use Rattle.mq_run_laws.specs.Legal.{IsLegal}
 use Rattle.mq_pages.specs.declared.page.PageCell.{PageCell}
 use Rattle.mq_recover.specs.declared.standing.Standing.{Standing}
 use Rattle.mq_report.specs.declared.line.Line.{Line}

@@ -4,7 +4,7 @@ use Rattle.mq_drive.specs.Emu.{emu_faults, emu_state}
 use Rattle.mq_drive.specs.Steps.{PortFault}
 use Rattle.mq_drive.specs.declared.emu.EmuPort.{EmuPort}
 use Rattle.mq_drive.specs.declared.port.Ports.{Ports}
-use Rattle.mq_history.specs.Histories.{AreOfBytes}
+use Rattle.mq_run_laws.specs.Histories.{AreOfBytes}
 use Rattle.mq_image.specs.File.{DriveImage}
 use Rattle.mq_image_ops.specs.Cuts.{row_of}
 use Rattle.mq_image_run.specs.Drives.{emu_ghosts}

@@ -26,10 +26,10 @@ use Rattle.mq_image_ops.specs.Views.{view_of}
 use Rattle.mq_image_ops.proofs.CutsRecoverings.{left-images}
 use Rattle.mq_image_ops.proofs.StandingRestarts.{blocks-stand, doorbells-kept, none-above}
 use Rattle.mq_ledger.specs.State.{port_at}
-use Rattle.mq_history.specs.Answers.{AreAnswered}
-use Rattle.mq_history.specs.Cuts.{IsClean, IsCut, IsRung, Starts}
-use Rattle.mq_history.specs.Histories.{AreOfBytes}
-use Rattle.mq_history.specs.Legal.{IsLegal, newest, volume_at}
+use Rattle.mq_run_laws.specs.Answers.{AreAnswered}
+use Rattle.mq_run_laws.specs.Cuts.{IsClean, IsCut, IsRung, Starts}
+use Rattle.mq_run_laws.specs.Histories.{AreOfBytes}
+use Rattle.mq_run_laws.specs.Legal.{IsLegal, newest, volume_at}
 use Rattle.mq_nvme.specs.Says.{journal_reading}
 use Rattle.mq_recover.specs.Drives.{AreImages, drive_of}
 use Rattle.mq_recover.specs.Recovery.{IsReadPrefix}

@@ -16,8 +16,8 @@ use Rattle.mq_image_run.specs.declared.options.RunOptions.{RunOptions}
 use Rattle.mq_image_run.specs.declared.ran.ImageRun.{ImageRun}
 use Rattle.mq_image_ops.specs.Cuts.{row_of}
 use Rattle.mq_image_ops.specs.declared.ports.Failing.{Failing}
-use Rattle.mq_history.specs.Answers.{IsErrorOf, IsUndone}
-use Rattle.mq_history.specs.Histories.{AreOfBytes}
+use Rattle.mq_run_laws.specs.Answers.{IsErrorOf, IsUndone}
+use Rattle.mq_run_laws.specs.Histories.{AreOfBytes}
 use Rattle.mq_recover.specs.Drives.{faults_on}
 use Rattle.mq_report.specs.declared.line.Last.{Last}
 use Rattle.mq_report.specs.declared.line.Last.TheVariants.{Clean, Cut, StoppedBlock, StoppedTx}

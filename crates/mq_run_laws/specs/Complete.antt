@@ -6,10 +6,10 @@ use Rattle.mq_blocks.specs.declared.geometry.Geometry.{Geometry}
 use Rattle.mq_queue_side.specs.declared.answers.CallCause.{CallCause}
 use Rattle.mq_queue_side.specs.declared.answers.CallCause.TheVariants.{Changes, Drive, OutOfMemory, TooLarge}
 use Rattle.mq_queue_side.specs.declared.answers.Refusal.{Refusal}
-use Rattle.mq_history.specs.Answers.{HasSeen, IsOf, group_told}
-use Rattle.mq_history.specs.Cuts.{IsClean}
-use Rattle.mq_history.specs.Groups.{IsGroup}
-use Rattle.mq_history.specs.Legal.{WritesFew, newest, volume_at}
+use Rattle.mq_run_laws.specs.Answers.{HasSeen, IsOf, group_told}
+use Rattle.mq_run_laws.specs.Cuts.{IsClean}
+use Rattle.mq_run_laws.specs.Groups.{IsGroup}
+use Rattle.mq_run_laws.specs.Legal.{WritesFew, newest, volume_at}
 use Rattle.mq_image.specs.File.{DriveImage}
 use Rattle.mq_image_ops.specs.Views.{view_of}
 use Rattle.mq_image_run.specs.declared.ran.ImageRun.{ImageRun}

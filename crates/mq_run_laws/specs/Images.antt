@@ -10,10 +10,10 @@ use Rattle.mq_image_run.specs.declared.options.Ending.TheVariants.{Checkpoint}
 use Rattle.mq_image_run.specs.declared.options.RunOptions.{RunOptions}
 use Rattle.mq_image_run.specs.declared.ran.ImageRun.{ImageRun}
 use Rattle.mq_image_ops.specs.Views.{view_of}
-use Rattle.mq_history.specs.Answers.{AreAnswered, AreCaused}
-use Rattle.mq_history.specs.Cuts.{IsClean, IsCut, IsRung, Starts}
-use Rattle.mq_history.specs.Histories.{AreOfBytes}
-use Rattle.mq_history.specs.Legal.{IsLegal, newest, volume_at}
+use Rattle.mq_run_laws.specs.Answers.{AreAnswered, AreCaused}
+use Rattle.mq_run_laws.specs.Cuts.{IsClean, IsCut, IsRung, Starts}
+use Rattle.mq_run_laws.specs.Histories.{AreOfBytes}
+use Rattle.mq_run_laws.specs.Legal.{IsLegal, newest, volume_at}
 use Rattle.mq_run_laws.specs.Causes.{AreBacked, IsChargedOnce, IsEndOf, IsStopOf, ports_of}
 use Rattle.mq_run_laws.specs.Complete.{HaveWanted, IsComplete}
 use Rattle.mq_run_laws.specs.Recovering.{HoldsVolume, LeadsTo}

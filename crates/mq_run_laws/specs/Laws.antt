@@ -13,10 +13,10 @@ use Rattle.mq_file_entries.specs.Group.{file_group}
 use Rattle.mq_journal.specs.Values.{side_values}
 use Rattle.mq_ledger.specs.KnownJournal.{front}
 use Rattle.mq_ledger.specs.State.{port_at}
-use Rattle.mq_history.specs.Answers.{AreAnswered, AreCaused, IsAcknowledged}
-use Rattle.mq_history.specs.Cuts.{IsClean, IsCut, IsRung}
-use Rattle.mq_history.specs.Histories.{AreOfBytes}
-use Rattle.mq_history.specs.Legal.{IsLegal, newest}
+use Rattle.mq_run_laws.specs.Answers.{AreAnswered, AreCaused, IsAcknowledged}
+use Rattle.mq_run_laws.specs.Cuts.{IsClean, IsCut, IsRung}
+use Rattle.mq_run_laws.specs.Histories.{AreOfBytes}
+use Rattle.mq_run_laws.specs.Legal.{IsLegal, newest}
 use Rattle.mq_queue_side.specs.declared.answers.CallCause.TheVariants.{Drive}
 use Rattle.mq_queue_side.specs.declared.answers.Refusal.{Refusal}
 use Rattle.mq_report.specs.declared.line.Told.{Told}

@@ -4,3 +4,10 @@ pub mod Complete
 pub mod Sums
 pub mod Recovering
 pub mod Images
+pub mod Groups
+pub mod Legal
+pub mod Answers
+pub mod Cuts
+pub mod Histories
+pub mod HistoryLaws
+pub mod SmallRun

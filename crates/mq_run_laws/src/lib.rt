@@ -1,8 +1,13 @@
 //! What a run of scripts is, in the words of its report.
 #![tactic(auto)]
 
+mod history_laws;
 mod laws;
 
+pub use history_laws::{
+    a_change_has_a_count, a_history_is_a_run, a_log_is_a_history, a_run_goes_on, a_small_run,
+    a_volume_has_one_map, each_number_has_its_commit, spelled_scripts_are_of_bytes,
+};
 pub use laws::{
     a_refusal_is_backed, a_refusal_is_caused, a_refusal_is_charged_once,
     a_refusal_on_an_image_is_backed, a_run_is_answered, a_run_is_cut, a_run_is_legal,

@@ -1,6 +1,6 @@
 use Rattle.std.proofs.Common.{◌≡◌, ◌∙◌, ◌≤◌, ℕ, List, length, ap, arith, subst, sym}
 use Rattle.mq_command_gen.specs.Generated.{AreForMemory, AreGood, IsPlayed}
-use Rattle.mq_history.specs.Legal.{newest as newest_of}
+use Rattle.mq_run_laws.specs.Legal.{newest as newest_of}
 use Rattle.mq_report.specs.Lines.{Line}
 use Rattle.mq_report.specs.declared.line.Told.{Told}
 use Rattle.mq_script.specs.Scripts.{Script}

@@ -1,5 +1,5 @@
 use Rattle.std.proofs.Common.{◌≡◌, drop}
-use Rattle.mq_history.specs.Legal.{newest as newest_of}
+use Rattle.mq_run_laws.specs.Legal.{newest as newest_of}
 use Rattle.mq_command_gen.proofs.generating.newest.Given as goal
 
 -- the lines that are left lead from the number of the last one to that of all

@@ -2,7 +2,7 @@ use Rattle.std.proofs.Common.{◌≡◌, ◌∙◌, ℕ, Some, true, inl, inr, a
 use Rattle.std.specs.Prelude.{slice_get}
 use Rattle.std.proofs.lemmas.Bool.{cases_eq}
 use Rattle.std.proofs.lemmas.Option.{get_or_from_slice_get, slice_get-get_or}
-use Rattle.mq_history.specs.Answers.{is_good}
+use Rattle.mq_run_laws.specs.Answers.{is_good}
 use Rattle.mq_report.specs.declared.line.Told.{Told}
 use Rattle.mq_command_gen.proofs.playing.settle_all.Goals as goal
 

@@ -1,6 +1,6 @@
 use Rattle.std.proofs.Common.{◌≡◌, ℕ, ◌<◌, Some, true}
 use Rattle.std.specs.Prelude.{slice_get}
-use Rattle.mq_history.specs.Answers.{is_good}
+use Rattle.mq_run_laws.specs.Answers.{is_good}
 use Rattle.mq_report.specs.declared.line.Told.{Told}
 use Rattle.mq_command_gen.proofs.playing.settle_all.Given as goal
 

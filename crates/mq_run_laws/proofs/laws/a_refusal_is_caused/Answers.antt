@@ -1,5 +1,5 @@
 use Rattle.std.proofs.Common.{ℕ, refl, sym, subst}
-use Rattle.mq_history.specs.Answers.{IsPortCause}
+use Rattle.mq_run_laws.specs.Answers.{IsPortCause}
 use Rattle.mq_run_laws.proofs.AnswersCaused.{is-caused}
 use Rattle.mq_run_laws.proofs.DrivesFailures.{cause-holds}
 use Rattle.mq_run_laws.proofs.laws.a_refusal_is_caused.Goals as goal

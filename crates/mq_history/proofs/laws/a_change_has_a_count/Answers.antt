@@ -1,6 +1,0 @@
-use Rattle.mq_history.proofs.LegalFacts.{count-once, few-entries}
-use Rattle.mq_history.proofs.LegalMoving.{sound-writes, writes-few}
-use Rattle.mq_history.proofs.laws.a_change_has_a_count.Goals as goal
-
-pub returns : goal.returns
-returns c = record { some = sound-writes; one = count-once; few = writes-few; entries = few-entries }

@@ -1,8 +1,0 @@
-use Rattle.mq_history.proofs.HistoriesLogs.{log-does, log-map}
-use Rattle.mq_history.proofs.laws.a_log_is_a_history.Goals as goal
-
-pub returns : goal.returns
-returns g c = record {
-  does = log-does g.J.JournalValues.values;
-  leads = log-map g.J.JournalValues.values;
-}

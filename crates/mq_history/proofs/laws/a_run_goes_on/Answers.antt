@@ -1,6 +1,0 @@
-use Rattle.mq_history.proofs.CutsNextRun.{clean-home, next-starts, starts-once}
-use Rattle.mq_history.proofs.CutsStarting.{run-ends, volume-starts}
-use Rattle.mq_history.proofs.laws.a_run_goes_on.Goals as goal
-
-pub returns : goal.returns
-returns c = record { once = starts-once; next = next-starts; clean = clean-home; starts = volume-starts; cut = run-ends }

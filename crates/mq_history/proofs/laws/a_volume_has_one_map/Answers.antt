@@ -1,6 +1,0 @@
-use Rattle.mq_history.proofs.Laid.{sound-laid}
-use Rattle.mq_history.proofs.LaidMaps.{each-stands, same-map, same-volume}
-use Rattle.mq_history.proofs.laws.a_volume_has_one_map.Goals as goal
-
-pub returns : goal.returns
-returns c = record { some = sound-laid; map = same-map; volume = same-volume; stands = each-stands }
