@@ -24,7 +24,7 @@ use Rattle.mq_image_run.specs.declared.ran.ImageRun.{ImageRun}
 use Rattle.mq_run_laws.specs.Cuts.{Starts}
 use Rattle.mq_run_laws.specs.HistoryLaws.{AreSpelled}
 use Rattle.mq_run_laws.proofs.LawsSpelled.{spelled-bytes}
-use Rattle.mq_report_laws.proofs.Images.{may-be-reported}
+use Rattle.mq_run_laws.proofs.ReportImages.{may-be-reported}
 use Rattle.mq_run_laws.specs.Images.{KeepsPromise}
 use Rattle.mq_run_laws.proofs.Images.{keeps-promise}
 use Rattle.mq_image_ops.specs.Standing as standings

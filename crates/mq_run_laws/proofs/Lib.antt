@@ -42,3 +42,6 @@ pub mod LegalFacts
 pub mod LegalMoving
 pub mod MovesQuiet
 pub mod SmallRun
+pub mod ReportImages
+mod Orders
+mod Replies

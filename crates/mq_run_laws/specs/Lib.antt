@@ -11,3 +11,4 @@ pub mod Cuts
 pub mod Histories
 pub mod HistoryLaws
 pub mod SmallRun
+pub mod ReportLaws

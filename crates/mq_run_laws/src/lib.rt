@@ -3,6 +3,7 @@
 
 mod history_laws;
 mod laws;
+mod report_laws;
 
 pub use history_laws::{
     a_change_has_a_count, a_history_is_a_run, a_log_is_a_history, a_run_goes_on, a_small_run,
@@ -13,3 +14,4 @@ pub use laws::{
     a_refusal_on_an_image_is_backed, a_run_is_answered, a_run_is_cut, a_run_is_legal,
     a_run_is_rung, a_run_on_an_image_keeps_its_promise, every_interleaving_is_recovered,
 };
+pub use report_laws::{a_run_has_fit_replies, a_run_is_in_order, a_run_on_an_image_may_be_reported};

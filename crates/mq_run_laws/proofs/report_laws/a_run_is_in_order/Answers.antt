@@ -1,5 +1,5 @@
-use Rattle.mq_report_laws.proofs.Orders.{answers-order, lines-order}
-use Rattle.mq_report_laws.proofs.laws.a_run_is_in_order.Goals as goal
+use Rattle.mq_run_laws.proofs.Orders.{answers-order, lines-order}
+use Rattle.mq_run_laws.proofs.report_laws.a_run_is_in_order.Goals as goal
 
 pub returns : goal.returns
 returns g c = λ d ports s scripts finish e run short. (

@@ -14,8 +14,8 @@ use Rattle.mq_report.specs.Orders.{IsToldBefore, Precedes}
 use Rattle.mq_report.specs.Reports.{MayBeReported}
 use Rattle.mq_run_laws.proofs.ViewsSaved as saved
 use Rattle.mq_script.specs.Scripts.{Script}
-use Rattle.mq_report_laws.proofs.Orders.{answers-order, lines-order}
-use Rattle.mq_report_laws.proofs.Replies.{run-fit}
+use Rattle.mq_run_laws.proofs.Orders.{answers-order, lines-order}
+use Rattle.mq_run_laws.proofs.Replies.{run-fit}
 
 pub may-be-reported : (x : DriveImage) (scripts : List Script) (o : RunOptions) (r : ImageRun) → IsRunOf x scripts o r → AreOfBytes scripts → MayBeReported r.entries.items r.answers.items
 may-be-reported x scripts o r run bytes =

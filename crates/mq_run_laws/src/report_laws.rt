@@ -1,5 +1,5 @@
 // What holds of what a run reports.
-ghost use Rattle.mq_report_laws.specs.Laws.{ImageRunsMayBeReported, LegalListsHaveFitReplies, RunsAreInOrder};
+ghost use Rattle.mq_run_laws.specs.ReportLaws.{ImageRunsMayBeReported, LegalListsHaveFitReplies, RunsAreInOrder};
 
 use mq_drive::Port;
 

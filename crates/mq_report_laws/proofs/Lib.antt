@@ -1,3 +1,0 @@
-pub mod Images
-mod Orders
-mod Replies

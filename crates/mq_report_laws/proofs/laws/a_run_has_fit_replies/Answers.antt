@@ -1,5 +1,0 @@
-use Rattle.mq_report_laws.proofs.Replies.{run-fit}
-use Rattle.mq_report_laws.proofs.laws.a_run_has_fit_replies.Goals as goal
-
-pub returns : goal.returns
-returns c = run-fit
