@@ -7,8 +7,8 @@ use Rattle.mq_journal.specs.declared.refusal.CheckpointRefusal.TheVariants as ch
 use Rattle.mq_drive.specs.Steps.{PortFault}
 use Rattle.mq_drive.specs.declared.port.Port.{Ghosts}
 use Rattle.mq_exec.specs.declared.outcome.Done.{Done}
-use Rattle.mq_file_entries.specs.Group.{file_group}
-use Rattle.mq_file_entries.specs.declared.entry.FileEntry.{FileEntry}
+use Rattle.mq_calls.specs.Group.{file_group}
+use Rattle.mq_calls.specs.declared.entry.FileEntry.{FileEntry}
 use Rattle.mq_journal.specs.Numbers.{Seat}
 use Rattle.mq_sessions.specs.Refusing as given
 use Rattle.mq_sessions.specs.declared.answers.RefusalCause.{RefusalCause}

@@ -10,3 +10,6 @@ pub mod OpeningVolume
 pub mod ActsComposing
 pub mod MountingVolumes
 pub mod Helping
+pub mod LawsChanging
+pub mod Entries
+pub mod LawsRuling

@@ -8,8 +8,8 @@ use Rattle.mq_drive.specs.declared.port.Port.{Ghosts}
 use Rattle.mq_exec.specs.Outcomes.{Answers, IsDone}
 use Rattle.mq_exec.specs.declared.outcome.Done.{Done as Carried}
 use Rattle.mq_exec.specs.declared.outcome.Outcome.TheVariants.{Done}
-use Rattle.mq_file_entries.specs.Group.{file_group}
-use Rattle.mq_file_entries.specs.declared.entry.FileEntry.{FileEntry}
+use Rattle.mq_calls.specs.Group.{file_group}
+use Rattle.mq_calls.specs.declared.entry.FileEntry.{FileEntry}
 use Rattle.mq_inodes.specs.Fits.{Agrees, IsPossible}
 use Rattle.mq_inodes.specs.Pages.{held_pages}
 use Rattle.mq_inodes.proofs.PagesLifting.{laid-agrees}

@@ -7,8 +7,8 @@ use Rattle.mq_journal.specs.declared.refusal.CheckpointRefusal.{CheckpointRefusa
 use Rattle.mq_journal.specs.declared.refusal.CheckpointRefusal.TheVariants as checkpoint
 use Rattle.mq_drive.specs.Steps.{PortFault}
 use Rattle.mq_drive.specs.declared.port.Port.{Ghosts}
-use Rattle.mq_file_entries.specs.Group.{file_group}
-use Rattle.mq_file_entries.specs.declared.entry.FileEntry.{FileEntry}
+use Rattle.mq_calls.specs.Group.{file_group}
+use Rattle.mq_calls.specs.declared.entry.FileEntry.{FileEntry}
 use Rattle.mq_journal.specs.Numbers.{Seat, Shared}
 use Rattle.mq_pages.specs.declared.page.Write.{Write}
 use Rattle.mq_revoke.specs.declared.placement.Planned.{Planned}

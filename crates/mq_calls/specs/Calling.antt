@@ -2,7 +2,7 @@
 use Rattle.std.specs.Prelude.{ℕ, Bool, List}
 use Rattle.mq_drive.specs.declared.port.Port.{Ghosts}
 use Rattle.mq_exec.specs.declared.outcome.Done.{Done}
-use Rattle.mq_file_entries.specs.declared.entry.FileEntry.{FileEntry}
+use Rattle.mq_calls.specs.declared.entry.FileEntry.{FileEntry}
 use Rattle.mq_journal.specs.Numbers.{Seat}
 use Rattle.mq_tree.specs.declared.request.Request.{Request}
 use Rattle.mq_calls.specs.Acts.{Call}

@@ -8,3 +8,7 @@ pub mod Laws
 pub mod Opening
 pub mod Mounting
 pub mod Helpers
+pub mod Entries
+pub mod Plans
+pub mod Group
+pub mod EntryLaws

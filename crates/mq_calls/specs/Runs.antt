@@ -7,10 +7,10 @@ use Rattle.mq_drive.specs.declared.port.Port.{Ghosts}
 use Rattle.mq_exec.specs.Outcomes.{AreKnown, Answers}
 use Rattle.mq_exec.specs.declared.outcome.Done.{Done}
 use Rattle.mq_exec.specs.declared.outcome.Outcome.TheVariants.{Done as IsDone}
-use Rattle.mq_file_entries.specs.Entries.{IsAllLogged, freed_by, written_by}
-use Rattle.mq_file_entries.specs.Group.{file_group}
-use Rattle.mq_file_entries.specs.Plans.{DoneOn, IsEntryOf}
-use Rattle.mq_file_entries.specs.declared.entry.FileEntry.{FileEntry}
+use Rattle.mq_calls.specs.Entries.{IsAllLogged, freed_by, written_by}
+use Rattle.mq_calls.specs.Group.{file_group}
+use Rattle.mq_calls.specs.Plans.{DoneOn, IsEntryOf}
+use Rattle.mq_calls.specs.declared.entry.FileEntry.{FileEntry}
 use Rattle.mq_inodes.specs.Pages.{held_pages}
 use Rattle.mq_journal.specs.Machine.{journal}
 use Rattle.mq_journal.specs.Values.{side_values}

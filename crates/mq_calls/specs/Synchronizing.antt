@@ -5,8 +5,8 @@ use Rattle.mq_blocks.specs.Geometry.{queues_of}
 use Rattle.mq_blocks.specs.declared.geometry.Geometry.{Geometry}
 use Rattle.mq_drive.specs.Steps.{PortFault}
 use Rattle.mq_drive.specs.declared.port.Port.{Ghosts}
-use Rattle.mq_file_entries.specs.Group.{file_group}
-use Rattle.mq_file_entries.specs.declared.entry.FileEntry.{FileEntry}
+use Rattle.mq_calls.specs.Group.{file_group}
+use Rattle.mq_calls.specs.declared.entry.FileEntry.{FileEntry}
 use Rattle.mq_journal.specs.Numbers.{Seat}
 use Rattle.mq_journal.specs.Sweeping.{NamesUpto, WasRefused}
 use Rattle.mq_queue_side.specs.declared.answers.Cause.{Cause}

@@ -1,6 +1,6 @@
 // The calls of a session that change the file system.
 ghost use Rattle.std.specs.Prelude.{◌≡◌, ◌+◌, ◌<◌, ◌≤◌, IfErr, IfOk, OnOk, [], true, false};
-ghost use Rattle.mq_file_entries.specs.Group.{file_group};
+ghost use Rattle.mq_calls.specs.Group.{file_group};
 ghost use Rattle.mq_journal.specs.Sweeping.{HasSwept};
 ghost use Rattle.mq_turns.specs.AtDesk.{AtDesk, view};
 ghost use Rattle.mq_calls.specs.Acts.{GoesOn, HasActed, HasNotWaited, IsRefused, cause_as};

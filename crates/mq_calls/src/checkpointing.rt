@@ -1,7 +1,7 @@
 // A checkpoint that a session makes.
 ghost use Rattle.std.specs.Prelude.{◌≡◌, IfErr, IfOk};
 ghost use Rattle.mq_journal.specs.Raised.{HasRefused, Raises};
-ghost use Rattle.mq_file_entries.specs.Group.{file_group};
+ghost use Rattle.mq_calls.specs.Group.{file_group};
 ghost use Rattle.mq_turns.specs.AtDesk.{AtDesk, view};
 ghost use Rattle.mq_calls.specs.Acts.{GoesOn};
 ghost use Rattle.mq_calls.specs.Sessions.{IsReady};

@@ -7,25 +7,34 @@ mod asking;
 mod calls;
 mod checkpointing;
 mod closing;
+mod entry;
+mod entry_laws;
 mod laws;
+mod lists;
 mod machine;
 mod mounting;
 mod opening;
+mod planning;
 mod rounds;
 mod session;
 mod settling;
 mod telling;
 
 pub use answers::Answer;
+pub use entry::FileEntry;
+pub use entry_laws::{
+    a_done_group_asks, a_done_group_does, a_done_group_may_be_drawn, a_done_group_may_be_prepared,
+    a_group_meets_the_rule, an_entry_tells_its_commit,
+};
 pub use laws::{a_done_group_stands, a_reading_group_changes_nothing};
+pub use lists::{Placed, Replies, Requests};
 pub use machine::{FileGroups, FileMachine};
 pub use mounting::find_volume;
 pub use mq_journal::CheckpointRefusal;
+pub use mq_ledger::Blocks;
 pub use mq_queue_side::{CallCause, Refusal};
-pub use mq_sessions::{
-    Aide, Gate, Open, Point, Shaped, User, current_pages_are_of_the_map, drawn_pages_are_held,
-    give_back_pages, held_pages_are_current, held_pages_stay, no_page_is_left, take_pages,
-};
+pub use mq_sessions::{Aide, Gate, Open, Point, Reads, Shaped, User, a_page_stays_below, current_pages_are_of_the_map, drawn_pages_are_held, give_back_pages, held_pages_are_current, held_pages_stay, no_page_is_left, page_after, plan_writes, take_pages};
+pub use planning::held_pages_tell_plans;
 pub use rounds::run_held;
 pub use session::{FileSystem, Mqfs, Session};
 pub use settling::Helper;

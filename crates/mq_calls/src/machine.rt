@@ -2,7 +2,8 @@
 use mq_blocks::{BlockNo, Geometry, OutOfMemory, QueueNo};
 use mq_desk_laws::JournalValues;
 use mq_exec::{Done, View};
-use mq_file_entries::{FileEntry, a_done_group_may_be_drawn};
+use crate::entry::FileEntry;
+use crate::entry_laws::a_done_group_may_be_drawn;
 use mq_journal::{Groups, JournalMachine};
 use mq_pages::{Held, Write};
 use mq_revoke::Placement;
@@ -16,7 +17,7 @@ pub struct FileGroups;
 impl Groups for FileGroups {
     type Entry = FileEntry;
 
-    ghost use Rattle.mq_file_entries.specs.Group.{file_group};
+    ghost use Rattle.mq_calls.specs.Group.{file_group};
 
     ghost group = { file_group };
 }

@@ -4,7 +4,7 @@ use Rattle.std.specs.Prelude.{Some, slice_get}
 use Rattle.std.specs.List.{All}
 use Rattle.std.proofs.lemmas.List.{map_push}
 use Rattle.std.proofs.lemmas.Option.{same_Some}
-use Rattle.mq_file_entries.specs.declared.entry.FileEntry.{FileEntry}
+use Rattle.mq_calls.specs.declared.entry.FileEntry.{FileEntry}
 use Rattle.mq_report.specs.declared.line.Line.{Line}
 use Rattle.mq_run.specs.Lines.{AreCommitLines, IsCommitLine}
 use Rattle.mq_run.specs.Lines.AreCommitLines.{none, more}

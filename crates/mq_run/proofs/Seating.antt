@@ -7,7 +7,7 @@ use Rattle.mq_blocks.specs.declared.geometry.Geometry.{Geometry}
 use Rattle.mq_calls.specs.Opening.{IsNewSession}
 use Rattle.mq_calls.specs.Sessions.{IsReady}
 use Rattle.mq_drive.specs.declared.port.Port.{Ghosts}
-use Rattle.mq_file_entries.specs.declared.entry.FileEntry.{FileEntry}
+use Rattle.mq_calls.specs.declared.entry.FileEntry.{FileEntry}
 use Rattle.mq_journal.specs.Numbers.{Seat, Start}
 use Rattle.mq_notices.specs.declared.line.Line.{Line as NoticeLine}
 use Rattle.mq_pages.specs.Held.{HeldCells}

@@ -5,8 +5,8 @@ use Rattle.mq_blocks.specs.Drive.{PortState}
 use Rattle.mq_calls.specs.Helpers.{HasSettled}
 use Rattle.mq_drive.specs.Steps.{PortFault}
 use Rattle.mq_drive.specs.declared.port.Port.{Ghosts}
-use Rattle.mq_file_entries.specs.Group.{file_group}
-use Rattle.mq_file_entries.specs.declared.entry.FileEntry.{FileEntry}
+use Rattle.mq_calls.specs.Group.{file_group}
+use Rattle.mq_calls.specs.declared.entry.FileEntry.{FileEntry}
 use Rattle.mq_journal.specs.Draining.{RefusesDrain, report_of}
 use Rattle.mq_journal.specs.Numbers.{Seat, reported}
 use Rattle.mq_journal.proofs.Settled.{swept-by}

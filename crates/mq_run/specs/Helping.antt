@@ -5,7 +5,7 @@ use Rattle.mq_calls.specs.Acts.{GoesOn}
 use Rattle.mq_calls.specs.Helpers.{HasSettled}
 use Rattle.mq_drive.specs.Steps.{PortFault}
 use Rattle.mq_drive.specs.declared.port.Port.{Ghosts}
-use Rattle.mq_file_entries.specs.declared.entry.FileEntry.{FileEntry}
+use Rattle.mq_calls.specs.declared.entry.FileEntry.{FileEntry}
 use Rattle.mq_journal.specs.Draining.{RefusesDrain}
 use Rattle.mq_journal.specs.Numbers.{Seat}
 use Rattle.mq_notices.specs.Serving.{Serves}

@@ -11,7 +11,7 @@ use Rattle.mq_calls.specs.declared.answers.Answer.{Answer}
 use Rattle.mq_queue_side.specs.declared.answers.Refusal.{Refusal}
 use Rattle.mq_drive.specs.Steps.{PortFault}
 use Rattle.mq_drive.specs.declared.port.Port.{Ghosts}
-use Rattle.mq_file_entries.specs.declared.entry.FileEntry.{FileEntry}
+use Rattle.mq_calls.specs.declared.entry.FileEntry.{FileEntry}
 use Rattle.mq_journal.specs.Numbers.{Seat}
 use Rattle.mq_notices.specs.declared.line.Line.{Line as NoticeLine}
 use Rattle.mq_report.specs.Sessions.{ends_session}

@@ -2,7 +2,7 @@
 use mq_blocks::TxNo;
 use mq_journal::CheckpointRefusal;
 use mq_drive::{Port, Ports};
-use mq_file_entries::Placed;
+use mq_calls::Placed;
 use mq_pages::PageCell;
 use mq_report::{Line, Told};
 

@@ -8,7 +8,7 @@ ghost use Rattle.mq_tie.specs.Runs.{history_of};
 use mq_blocks::OutOfMemory;
 use mq_drive::Port;
 use mq_exec::copy_reply;
-use mq_file_entries::{Blocks, FileEntry, Placed};
+use mq_calls::{Blocks, FileEntry, Placed};
 use mq_queue_side::Drawn;
 use mq_report::Line;
 use mq_script::End;

@@ -13,9 +13,9 @@ use Rattle.mq_queue_side.specs.declared.answers.Refusal.{Refusal}
 use Rattle.mq_drive.specs.Steps.{PortFault}
 use Rattle.mq_drive.specs.declared.port.Port.{Ghosts}
 use Rattle.mq_drive.specs.declared.port.Ports.{Ports}
-use Rattle.mq_file_entries.specs.Entries.{freed_by, volume_after, written_by}
-use Rattle.mq_file_entries.specs.Group.{file_group}
-use Rattle.mq_file_entries.specs.declared.entry.FileEntry.{FileEntry}
+use Rattle.mq_calls.specs.Entries.{freed_by, volume_after, written_by}
+use Rattle.mq_calls.specs.Group.{file_group}
+use Rattle.mq_calls.specs.declared.entry.FileEntry.{FileEntry}
 use Rattle.mq_journal.specs.Numbers.{Shared}
 use Rattle.mq_journal.specs.Values.{side_values}
 use Rattle.mq_journal.specs.Machine.{journal}

@@ -11,8 +11,8 @@ use Rattle.mq_calls.specs.Acts.{Call}
 use Rattle.mq_queue_side.specs.declared.answers.Refusal.{Refusal}
 use Rattle.mq_drive.specs.Steps.{PortFault}
 use Rattle.mq_drive.specs.declared.port.Port.{Ghosts}
-use Rattle.mq_file_entries.specs.Entries.{written_by}
-use Rattle.mq_file_entries.specs.declared.entry.FileEntry.{FileEntry}
+use Rattle.mq_calls.specs.Entries.{written_by}
+use Rattle.mq_calls.specs.declared.entry.FileEntry.{FileEntry}
 use Rattle.mq_journal.specs.Numbers.{Seat, Shared, reported}
 use Rattle.mq_run_laws.specs.Answers.{is_good, number_in}
 use Rattle.mq_run_laws.specs.Histories.{WritesNothing}

@@ -17,8 +17,8 @@ use Rattle.mq_drive.specs.declared.port.Ports.{Ports}
 use Rattle.mq_state_laws.proofs.PartsAssembly.{front_reached}
 use Rattle.mq_state_laws.proofs.JournalTops.{shows_low}
 use Rattle.mq_state_laws.specs.Parts.{Parts, least_marks, state_with}
-use Rattle.mq_file_entries.specs.Group.{file_group}
-use Rattle.mq_file_entries.specs.declared.entry.FileEntry.{FileEntry}
+use Rattle.mq_calls.specs.Group.{file_group}
+use Rattle.mq_calls.specs.declared.entry.FileEntry.{FileEntry}
 use Rattle.mq_journal.specs.Numbers.{Shared, Start}
 use Rattle.mq_journal.specs.Values.{side_values}
 use Rattle.mq_ledger.specs.History as ledger

@@ -7,8 +7,8 @@ use Rattle.mq_blocks.specs.Geometry.{write_limit}
 use Rattle.mq_blocks.specs.Machine.{Map, after}
 use Rattle.mq_blocks.specs.declared.geometry.Geometry.{Geometry}
 use Rattle.mq_exec.specs.Moves.{Moves}
-use Rattle.mq_file_entries.specs.Entries.{RanUndrawn, Does, Ran, freed_by, tx_of, volume_after, written_by}
-use Rattle.mq_file_entries.specs.declared.entry.FileEntry.{FileEntry}
+use Rattle.mq_calls.specs.Entries.{RanUndrawn, Does, Ran, freed_by, tx_of, volume_after, written_by}
+use Rattle.mq_calls.specs.declared.entry.FileEntry.{FileEntry}
 use Rattle.mq_ledger.specs.History.{change_of}
 use Rattle.mq_run_laws.proofs.Laid.{sound-laid}
 use Rattle.mq_run_laws.proofs.MovesQuiet.{moves-change, moves-stay}

@@ -10,11 +10,11 @@ use Rattle.mq_blocks.specs.Descriptor.{further_for}
 use Rattle.mq_blocks.specs.Geometry.{homes_of}
 use Rattle.mq_blocks.specs.Machine.{Map, after}
 use Rattle.mq_blocks.specs.declared.geometry.Geometry.{Geometry}
-use Rattle.mq_file_entries.proofs.LawsChanging.{writes_rise}
-use Rattle.mq_file_entries.specs.Entries.{Does, freed_by, tx_of, volume_after, written_by}
-use Rattle.mq_file_entries.specs.Group.{file_group}
-use Rattle.mq_file_entries.specs.Plans.{IsPlaced, planned_by}
-use Rattle.mq_file_entries.specs.declared.entry.FileEntry.{FileEntry}
+use Rattle.mq_calls.proofs.LawsChanging.{writes_rise}
+use Rattle.mq_calls.specs.Entries.{Does, freed_by, tx_of, volume_after, written_by}
+use Rattle.mq_calls.specs.Group.{file_group}
+use Rattle.mq_calls.specs.Plans.{IsPlaced, planned_by}
+use Rattle.mq_calls.specs.declared.entry.FileEntry.{FileEntry}
 use Rattle.mq_ledger.specs.History.{IsAt, change_of, of_queue, writes}
 use Rattle.mq_ledger.specs.Items.{below, descriptor_blocks, end_of, further_blocks, total}
 use Rattle.mq_ledger.specs.declared.tx.Tx.{Tx}

@@ -13,7 +13,7 @@ use Rattle.mq_blocks.specs.Machine.{Map}
 use Rattle.mq_blocks.specs.declared.geometry.Geometry.{Geometry}
 use Rattle.mq_exec.specs.Moves.{IsFreed, IsWritten, Moves}
 use Rattle.mq_exec.proofs.MovesLocal.{kind-same, write-same}
-use Rattle.mq_file_entries.proofs.LawsChanging.{shown_low}
+use Rattle.mq_calls.proofs.LawsChanging.{shown_low}
 use Rattle.mq_inodes.proofs.LaidOnce.{page-once, shown-vacant}
 use Rattle.mq_inodes.proofs.Sound.{sound-uses}
 use Rattle.mq_inodes.specs.Changes.{IsOfFile, owner}

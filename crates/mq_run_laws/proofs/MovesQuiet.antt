@@ -7,7 +7,7 @@ use Rattle.std.proofs.lemmas.Slice.Eq.{bytes_eq-Decides}
 use Rattle.mq_blocks.specs.Machine.{Map}
 use Rattle.mq_blocks.specs.declared.geometry.Geometry.{Geometry}
 use Rattle.mq_exec.specs.Moves.{IsFreed, IsWritten, Moves}
-use Rattle.mq_file_entries.specs.Entries.{Changes}
+use Rattle.mq_calls.specs.Entries.{Changes}
 use Rattle.mq_inodes.proofs.LaidOnce.{page-once, shown-taken, shown-vacant}
 use Rattle.mq_inodes.proofs.Sound.{sound-uses}
 use Rattle.mq_inodes.specs.Changes.{IsOfFile}

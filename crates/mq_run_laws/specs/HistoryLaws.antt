@@ -6,9 +6,9 @@ use Rattle.mq_blocks.specs.Geometry.{homes_of}
 use Rattle.mq_blocks.specs.Journal.{Shown, number_limit, stands}
 use Rattle.mq_blocks.specs.Machine.{Map}
 use Rattle.mq_blocks.specs.declared.geometry.Geometry.{Geometry}
-use Rattle.mq_file_entries.specs.Entries.{RanUndrawn, volume_after}
-use Rattle.mq_file_entries.specs.Group.{file_group}
-use Rattle.mq_file_entries.specs.declared.entry.FileEntry.{FileEntry}
+use Rattle.mq_calls.specs.Entries.{RanUndrawn, volume_after}
+use Rattle.mq_calls.specs.Group.{file_group}
+use Rattle.mq_calls.specs.declared.entry.FileEntry.{FileEntry}
 use Rattle.mq_ledger.specs.History as ledger
 use Rattle.mq_run_laws.specs.Answers.{AreAnswered, AreCaused, HasCommit, IsCaused, IsAcknowledged, IsOf, TellErrors, is_good}
 use Rattle.mq_run_laws.specs.Cuts.{HasShare, IsClean, IsCut, IsRung, ShowsVolume, Starts, is_on}

@@ -17,7 +17,7 @@ ghost use Rattle.mq_run_laws.specs.HistoryLaws.{NoLaterOneStopsAGroup, NoReached
 ghost use Rattle.mq_run_laws.specs.HistoryLaws.{SpelledScriptsAreOfBytes, LogsDo, LogsLead};
 
 use mq_desk_laws::JournalValues;
-use mq_file_entries::FileEntry;
+use mq_calls::FileEntry;
 
 /// A sound volume lies on exactly one map, and no other volume lies on that map. Where a volume stands on
 /// an image, each block of each of its maps does.

@@ -1,7 +1,7 @@
 use Rattle.std.proofs.Common.{◌≡◌, ◌++◌, [], map, ap, ◌∙◌, subst}
 use Rattle.mq_calls.specs.Helpers.{IsAtEase}
 use Rattle.mq_calls.specs.Sessions.{IsReady}
-use Rattle.mq_file_entries.specs.Group.{file_group}
+use Rattle.mq_calls.specs.Group.{file_group}
 use Rattle.mq_tie.specs.Closed.{HasRun}
 use Rattle.mq_turns.specs.AtDesk.{AtDesk, start_of, view}
 use Rattle.mq_run.proofs.Parts.{all_beside, map_beside}

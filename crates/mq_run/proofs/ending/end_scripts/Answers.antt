@@ -2,7 +2,7 @@ use Rattle.std.proofs.Common.{◌≡◌, ◌++◌, length, drop, ap, map, sym, s
 use Rattle.std.proofs.lemmas.List.{take_at}
 use Rattle.mq_calls.specs.Helpers.{IsAtEase}
 use Rattle.mq_calls.specs.Sessions.{IsReady}
-use Rattle.mq_file_entries.specs.Group.{file_group}
+use Rattle.mq_calls.specs.Group.{file_group}
 use Rattle.mq_notices.specs.Ends.{announced, served_by_helper, served_by_session}
 use Rattle.mq_notices.specs.Notices.{Merged}
 use Rattle.mq_tie.specs.Closed.{HasRun}

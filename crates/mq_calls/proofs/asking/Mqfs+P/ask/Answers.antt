@@ -4,7 +4,7 @@ use Rattle.std.specs.List.{All}
 use Rattle.mq_tree.specs.Requests.{is_change}
 use Rattle.mq_turns.specs.AtDesk.{view}
 use Rattle.mq_calls.specs.Asking.{changes, memory}
-use Rattle.mq_file_entries.specs.Group.{file_group}
+use Rattle.mq_calls.specs.Group.{file_group}
 use Rattle.mq_calls.proofs.AskingFirstChange.{at-answer, at-change, at-wanting, none-changes}
 use Rattle.mq_sessions.proofs.Attempts.{goes-at-once}
 use Rattle.mq_sessions.proofs.SessionsCalled.{keeps-at-once, ready-counted}

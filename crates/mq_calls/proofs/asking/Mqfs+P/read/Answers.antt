@@ -2,7 +2,7 @@ use Rattle.std.proofs.Common.{◌∙◌, inl, refl}
 use Rattle.std.specs.Prelude.{false}
 use Rattle.mq_turns.specs.AtDesk.{start_of, view}
 use Rattle.mq_calls.proofs.Sessions.{reads-only, ready-read}
-use Rattle.mq_file_entries.specs.Group.{file_group}
+use Rattle.mq_calls.specs.Group.{file_group}
 use Rattle.mq_sessions.proofs.WantedFurther.{same-then}
 use Rattle.mq_calls.specs.Runs.{file_calls}
 use Rattle.mq_sessions.proofs.Attempts.{goes-read, goes-same, goes-then}

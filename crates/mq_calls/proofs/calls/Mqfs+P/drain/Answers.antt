@@ -1,4 +1,4 @@
-use Rattle.mq_file_entries.specs.Group.{file_group}
+use Rattle.mq_calls.specs.Group.{file_group}
 use Rattle.mq_turns.specs.AtDesk.{view}
 use Rattle.mq_sessions.proofs.Attempts.{goes-swept}
 use Rattle.mq_calls.proofs.calls.Mqfs+P.drain.Goals as goal

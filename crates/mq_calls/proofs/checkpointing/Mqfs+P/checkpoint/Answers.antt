@@ -1,6 +1,6 @@
 use Rattle.std.proofs.Common.{sym}
 use Rattle.mq_turns.specs.AtDesk.{view}
-use Rattle.mq_file_entries.specs.Group.{file_group}
+use Rattle.mq_calls.specs.Group.{file_group}
 use Rattle.mq_sessions.proofs.AttemptsAgain.{goes-either, ready-either}
 use Rattle.mq_calls.proofs.checkpointing.Mqfs+P.checkpoint.Goals as goal
 

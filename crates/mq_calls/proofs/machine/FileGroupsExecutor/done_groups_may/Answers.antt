@@ -1,9 +1,9 @@
 use Rattle.std.proofs.Common.{ℕ, ◌<◌, refl, sym, subst}
 use Rattle.mq_blocks.specs.Geometry.{queues_of}
 use Rattle.mq_desk_laws.specs.Rule.{geometry_of, map_now}
-use Rattle.mq_file_entries.specs.Group.{file_group}
-use Rattle.mq_file_entries.specs.Plans.{DoneOn}
-use Rattle.mq_file_entries.proofs.LawsRuling.{may}
+use Rattle.mq_calls.specs.Group.{file_group}
+use Rattle.mq_calls.specs.Plans.{DoneOn}
+use Rattle.mq_calls.proofs.LawsRuling.{may}
 use Rattle.mq_calls.proofs.machine.FileGroupsExecutor.done_groups_may.Goals as goal
 
 pub returns : goal.returns

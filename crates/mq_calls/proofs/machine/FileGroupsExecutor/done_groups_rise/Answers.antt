@@ -1,4 +1,4 @@
-use Rattle.mq_file_entries.proofs.Entries.{done_rises}
+use Rattle.mq_calls.proofs.Entries.{done_rises}
 use Rattle.mq_calls.proofs.machine.FileGroupsExecutor.done_groups_rise.Goals as goal
 
 pub returns : goal.returns

@@ -1,5 +1,5 @@
 use Rattle.mq_calls.proofs.Acts.{of-call}
-use Rattle.mq_file_entries.specs.Entries.{tx_by}
+use Rattle.mq_calls.specs.Entries.{tx_by}
 use Rattle.mq_calls.proofs.machine.FileGroupsExecutor.entries_tell.Goals as goal
 
 pub returns : goal.returns

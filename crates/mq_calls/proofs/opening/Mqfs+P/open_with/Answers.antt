@@ -2,7 +2,7 @@ use Rattle.std.proofs.Common.{◌≡◌, ◌+◌, ◌<◌, ◌++◌, length, map
 use Rattle.std.specs.Prelude.{slice_get}
 use Rattle.std.proofs.lemmas.Option.{slice_get_within}
 use Rattle.mq_blocks.specs.Geometry.{queues_of}
-use Rattle.mq_file_entries.specs.Group.{file_group}
+use Rattle.mq_calls.specs.Group.{file_group}
 use Rattle.mq_desk_laws.proofs.Meaning.{starts}
 use Rattle.mq_turns.specs.AtDesk.{start_of, view}
 use Rattle.mq_calls.specs.Opening.{IsEquipped, IsOpenedOver, stored_map}

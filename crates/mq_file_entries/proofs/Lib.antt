@@ -1,3 +1,0 @@
-pub mod LawsChanging
-pub mod Entries
-pub mod LawsRuling

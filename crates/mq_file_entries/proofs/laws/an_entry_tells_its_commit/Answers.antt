@@ -1,5 +1,0 @@
-use Rattle.mq_file_entries.proofs.Entries.{tells_commit, tells_plan}
-use Rattle.mq_file_entries.proofs.laws.an_entry_tells_its_commit.Goals as goal
-
-pub returns : goal.returns
-returns c = record { commit = tells_commit; plan = tells_plan }

@@ -1,4 +1,0 @@
-pub mod Entries
-pub mod Plans
-pub mod Group
-pub mod Laws
