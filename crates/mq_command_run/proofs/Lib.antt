@@ -1,1 +1,10 @@
 pub mod RunsScripts
+pub mod GeneratedWorkload
+pub mod GeneratedLasts
+pub mod Empty
+pub mod GeneratedWhole
+pub mod Generates
+pub mod Touches
+pub mod TouchesRequests
+pub mod TouchesWrites
+pub mod WorkloadAnswers

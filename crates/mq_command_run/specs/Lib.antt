@@ -1,2 +1,4 @@
 pub mod Lines
 pub mod RunsScripts
+pub mod Generated
+pub mod Generates

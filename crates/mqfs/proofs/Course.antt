@@ -17,9 +17,9 @@ use Rattle.mq_command_blocks.specs.Picked.{IsRunBy, pick_of}
 use Rattle.mq_command_blocks.specs.SaysOfBlocks.{SaysOfBlocks, printed}
 use Rattle.mq_command_blocks.specs.SaysOfBlocks as blocks_says
 use Rattle.mq_command_check.specs.Checks.{Checks}
-use Rattle.mq_command_gen.specs.Generates.{Generates, IsPlayOf, SavesUnder, generated}
-use Rattle.mq_command_gen.specs.Generates as generates
-use Rattle.mq_command_gen.specs.declared.generated.Generated.{Generated}
+use Rattle.mq_command_run.specs.Generates.{Generates, IsPlayOf, SavesUnder, generated}
+use Rattle.mq_command_run.specs.Generates as generates
+use Rattle.mq_command_run.specs.declared.generated.Generated.{Generated}
 use Rattle.mq_command_images.specs.Commands.{Dumps, Formats, Lists, SaysNothing, SaysOfImage, ShowsFile, formatted, no_geometry}
 use Rattle.mq_command_images.specs.Commands as commands
 use Rattle.mq_command_images.specs.Recovers.{Recovers, RefusesRecovery, recovered}

@@ -9,9 +9,9 @@ use Rattle.mq_command_audit.specs.Audits as audits
 use Rattle.mq_command_blocks.specs.SaysOfBlocks.{SaysOfBlocks, bad_text, good_text}
 use Rattle.mq_command_blocks.specs.SaysOfBlocks as blocks_says
 use Rattle.mq_command_check.specs.Checks.{Checks, checked, not_checked}
-use Rattle.mq_command_gen.specs.Generates.{Generates}
-use Rattle.mq_command_gen.specs.Generates as generates
-use Rattle.mq_command_gen.specs.declared.workload.Workload.{Workload}
+use Rattle.mq_command_run.specs.Generates.{Generates}
+use Rattle.mq_command_run.specs.Generates as generates
+use Rattle.mq_command_run.specs.declared.workload.Workload.{Workload}
 use Rattle.mq_command_images.specs.Commands.{Dumps, Formats, Lists, SaysNothing, SaysOfImage, ShowsFile, dumped, formatted, is_image, listed, no_file, no_geometry, not_dumped, not_listed, not_saved, not_shown, shown, wants_memory}
 use Rattle.mq_command_images.specs.Commands as commands
 use Rattle.mq_command_images.specs.Recovers.{Recovers, RefusesRecovery, not_recovered, recovered}

@@ -1,7 +1,7 @@
 -- `gen` ends with 0 only where the workload was played, the image was saved where a name is given, and the
 -- line was said.
 use Rattle.std.proofs.Common.{◌≡◌, inl, inr, ℕ, List, Option, Some, sym, ◌∙◌, subst, arith}
-use Rattle.mq_command_gen.specs.Generates.{Generates, generated, not_saved, wants_memory}
+use Rattle.mq_command_run.specs.Generates.{Generates, generated, not_saved, wants_memory}
 use Rattle.mq_command_io.specs.Ending.{EndsWith}
 use Rattle.mq_outside.specs.Outside.{FilesState, SinkState, appended}
 use Rattle.mq_cli.specs.Asked.{Asked, Words, asked_of, gen}

@@ -6,8 +6,8 @@ use Rattle.mq_command_audit.specs.Audits.{Audits, misread_line}
 use Rattle.mq_command_audit.specs.Audits as audits
 use Rattle.mq_command_check.specs.Checks.{Checks, checked, not_checked}
 use Rattle.mq_command_images.specs.Commands.{Dumps, Formats, Lists, SaysNothing, SaysOfImage, ShowsFile, dumped, formatted, is_image, listed, no_file, no_geometry, no_image, not_dumped, not_listed, not_saved, not_shown, shown, wants_memory}
-use Rattle.mq_command_gen.specs.Generates.{Generates, SavesUnder, generated}
-use Rattle.mq_command_gen.specs.Generates as generates
+use Rattle.mq_command_run.specs.Generates.{Generates, SavesUnder, generated}
+use Rattle.mq_command_run.specs.Generates as generates
 use Rattle.mq_command_images.specs.Recovers.{Recovers, RefusesRecovery, not_recovered, recovered, unsaved}
 use Rattle.mq_command_images.specs.Recovers as recovers
 use Rattle.mq_command_loose.specs.SaysOfLoose.{SaysOfLoose}
@@ -17,7 +17,7 @@ use Rattle.mq_command_replicate.specs.Replicates as replicates
 use Rattle.mq_command_run.specs.RunsScripts.{AreLoaded, RefusesRunning, RefusesScript, RefusesScripts, Runs, are_wanting, ran}
 use Rattle.mq_command_run.specs.RunsScripts as runs
 use Rattle.mq_command_images.specs.declared.formatting.Numbers.{Numbers}
-use Rattle.mq_command_gen.specs.declared.workload.Workload.{Workload}
+use Rattle.mq_command_run.specs.declared.workload.Workload.{Workload}
 use Rattle.mq_command_io.specs.Ending.{IsLoaded, IsNotLoaded, IsNotSaved, IsSaved, SaysOf, TakesWithin, load_failed, load_memory, load_too_long, loaded, not_loaded, save_failed, save_memory, wanting}
 use Rattle.mq_image.specs.File.{DriveImage, image_bytes}
 use Rattle.mq_image_run.specs.declared.options.RunOptions.{RunOptions}

@@ -8,8 +8,8 @@ use Rattle.mq_block_trace.specs.Written.{IsTraced}
 use Rattle.mq_cli.specs.Asked.{Asked, Words, asked_of, blocks, format, gen, loose, recover, replicate, run}
 use Rattle.mq_command_blocks.specs.Blocks.{IsBlockText}
 use Rattle.mq_command_blocks.specs.Picked.{IsRunBy, pick_of}
-use Rattle.mq_command_gen.specs.Generates.{IsPlayOf}
-use Rattle.mq_command_gen.specs.declared.generated.Generated.{Generated}
+use Rattle.mq_command_run.specs.Generates.{IsPlayOf}
+use Rattle.mq_command_run.specs.declared.generated.Generated.{Generated}
 use Rattle.mq_command_images.specs.Commands.{numbers_of}
 use Rattle.mq_command_images.specs.Recovers.{IsRecoveredBy}
 use Rattle.mq_command_replicate.specs.Replicas.{IsReplicaOf}

@@ -1,8 +1,8 @@
 -- What `mqfs gen` comes to where the workload was played.
 use Rattle.std.specs.Prelude.{◌≡◌, ℕ, List, Option}
-use Rattle.mq_command_gen.specs.Generates.{IsPlayOf, SavesUnder, generated_line}
-use Rattle.mq_command_gen.specs.declared.workload.Workload.{Workload}
-use Rattle.mq_command_gen.specs.declared.generated.Generated.{Generated}
+use Rattle.mq_command_run.specs.Generates.{IsPlayOf, SavesUnder, generated_line}
+use Rattle.mq_command_run.specs.declared.workload.Workload.{Workload}
+use Rattle.mq_command_run.specs.declared.generated.Generated.{Generated}
 use Rattle.mq_outside.specs.Outside.{FilesState, SinkState, appended}
 
 -- The workload was played on an empty file system, and this was left. Where a name was given, it holds the

@@ -4,13 +4,13 @@ use Rattle.std.specs.Option.{unwrap_or}
 use Rattle.mq_command_audit.specs.Audits.{Audits}
 use Rattle.mq_command_check.specs.Checks.{Checks}
 use Rattle.mq_command_images.specs.Commands.{Dumps, Formats, Lists, SaysOfImage, ShowsFile}
-use Rattle.mq_command_gen.specs.Generates.{Generates}
+use Rattle.mq_command_run.specs.Generates.{Generates}
 use Rattle.mq_command_images.specs.Recovers.{Recovers}
 use Rattle.mq_command_loose.specs.SaysOfLoose.{SaysOfLoose}
 use Rattle.mq_command_replicate.specs.Replicates.{Replicates}
 use Rattle.mq_command_run.specs.RunsScripts.{Runs}
 use Rattle.mq_command_images.specs.declared.formatting.Numbers.{Numbers}
-use Rattle.mq_command_gen.specs.declared.workload.Workload.{Workload}
+use Rattle.mq_command_run.specs.declared.workload.Workload.{Workload}
 use Rattle.mq_command_io.specs.Ending.{SaysOf}
 use Rattle.mq_image_run.specs.declared.options.Ending.{Ending}
 use Rattle.mq_image_run.specs.declared.options.Ending.TheVariants.{Checkpoint, Cut}

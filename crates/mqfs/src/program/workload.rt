@@ -1,11 +1,11 @@
 // `gen`: a generated workload.
 ghost use Rattle.std.specs.Prelude.{◌≡◌, ◌≤◌, ℕ, List, option_map};
-ghost use Rattle.mq_command_gen.specs.Generates.{Generates};
+ghost use Rattle.mq_command_run.specs.Generates.{Generates};
 ghost use Rattle.mq_command_io.specs.Ending.{EndsWith, IsUnlessFailed};
 ghost use Rattle.mqfs.specs.Says.{asked_workload};
 
 use mq_calls::Gate;
-use mq_command_gen::{Workload, generate_and_save};
+use mq_command_run::{Workload, generate_and_save};
 use mq_outside::{Files, Sink};
 use std::alloc::Global;
 use std::sync::Wait;

@@ -1,9 +1,0 @@
-pub mod GeneratedWorkload
-pub mod GeneratedLasts
-pub mod Empty
-pub mod GeneratedWhole
-pub mod Generates
-pub mod Touches
-pub mod TouchesRequests
-pub mod TouchesWrites
-pub mod WorkloadAnswers
