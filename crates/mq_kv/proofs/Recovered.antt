@@ -26,7 +26,7 @@ use Rattle.mq_kv_entries.specs.Entries.{RanUndrawn, map_by}
 use Rattle.mq_kv_entries.specs.Group.{store_group}
 use Rattle.mq_kv_entries.specs.declared.entry.KvEntry.{KvEntry}
 use Rattle.mq_kv_entries.proofs.Entries.{meta-home, some-buckets}
-use Rattle.mq_kv_groups.proofs.Members.{cons-cases, none-contained}
+use Rattle.mq_kv_entries.proofs.Members.{cons-cases, none-contained}
 use Rattle.mq_kv.specs.Laws.{AnswerOn, HoldsPrefix, IsCutOfEnd, IsRepliedAt, Leads, buckets_after, buckets_at, first_groups, first_store}
 use Rattle.mq_kv.specs.Opening.{IsOpenedOver, store_map}
 use Rattle.mq_kv.proofs.AlikeBuckets.{Alike as AlikeBuckets, answers-alike, groups-alike, replies-alike}

@@ -27,9 +27,9 @@ use Rattle.mq_kv_entries.specs.Entries.{Does, IsAllLogged, Ran, RanUndrawn, map_
 use Rattle.mq_kv_entries.specs.Group.{IsPlaced, store_group}
 use Rattle.mq_kv_entries.specs.declared.entry.KvEntry.{KvEntry}
 use Rattle.mq_kv_entries.specs.declared.executor.KvMade.{KvMade}
-use Rattle.mq_kv_groups.specs.Groups.{GroupLooks, IsDone}
-use Rattle.mq_kv_groups.proofs.GroupsDone.{differs-looked}
-use Rattle.mq_kv_groups.proofs.Members.{cons-cases, cons-here, cons-there, none-contained}
+use Rattle.mq_kv_entries.specs.Groups.{GroupLooks, IsDone}
+use Rattle.mq_kv_entries.proofs.GroupsDone.{differs-looked}
+use Rattle.mq_kv_entries.proofs.Members.{cons-cases, cons-here, cons-there, none-contained}
 use Rattle.mq_ledger.specs.History.{change_of, map_after}
 use Rattle.mq_ledger.specs.KnownJournal.{KnownJournal, MayDraw, front}
 use Rattle.mq_ledger.specs.declared.tx.Tx.{Tx}

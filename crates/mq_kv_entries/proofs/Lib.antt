@@ -1,1 +1,7 @@
 pub mod Entries
+pub mod Members
+pub mod LawsAlike
+pub mod WorkingStepped
+pub mod GroupsDone
+pub mod Differences
+pub mod Lacking

@@ -9,9 +9,9 @@ use Rattle.mq_kv_buckets.specs.declared.operation.KvReply.{KvReply}
 use Rattle.mq_kv_entries.specs.Entries.{IsAllLogged, placed_by, reads_by, written_by}
 use Rattle.mq_kv_entries.specs.declared.entry.KvEntry.{KvEntry}
 use Rattle.mq_kv_entries.specs.declared.executor.KvMade.{KvMade}
-use Rattle.mq_kv_groups.specs.Groups.{Answers, IsDone}
-use Rattle.mq_kv_groups.specs.declared.outcome.KvDone.{KvDone}
-use Rattle.mq_kv_groups.specs.declared.outcome.KvOutcome.TheVariants.{Done}
+use Rattle.mq_kv_entries.specs.Groups.{Answers, IsDone}
+use Rattle.mq_kv_entries.specs.declared.outcome.KvDone.{KvDone}
+use Rattle.mq_kv_entries.specs.declared.outcome.KvOutcome.TheVariants.{Done}
 use Rattle.mq_pages.specs.Held.{Cells}
 use Rattle.mq_sessions.specs.Calls.{Call}
 use Rattle.mq_sessions.specs.Executors.{CallView}

@@ -6,7 +6,7 @@ use Rattle.mq_blocks.specs.Machine.{Map, after}
 use Rattle.mq_blocks.specs.declared.geometry.Geometry.{Geometry}
 use Rattle.mq_kv_buckets.specs.Store.{AreBuckets, map_after_ops}
 use Rattle.mq_kv_entries.specs.declared.entry.KvEntry.{KvEntry}
-use Rattle.mq_kv_groups.specs.Groups.{IsDone}
+use Rattle.mq_kv_entries.specs.Groups.{IsDone}
 use Rattle.mq_ledger.specs.History.{change_of}
 use Rattle.mq_ledger.specs.declared.tx.Tx.{Tx}
 use Rattle.mq_pages.specs.declared.page.Write.{Write}

@@ -6,7 +6,7 @@ use mq_blocks::{BlockNo, Geometry, OutOfMemory, QueueNo};
 use mq_desk_laws::JournalValues;
 use mq_journal::Groups;
 use mq_kv_buckets::{KvOp, KvReply};
-use mq_kv_groups::{KvDone, KvOutcome};
+use crate::outcome::{KvDone, KvOutcome};
 use mq_pages::{Held, Write};
 use mq_revoke::{Placement, a_plan_meets_the_guard};
 use mq_sessions::{Asked, Executor, Outcome, Reads};
@@ -50,7 +50,7 @@ impl Executor for KvGroups {
         held: &Held,
     ) -> Result<Outcome<KvMade>, OutOfMemory> {
         let _ = queue;
-        match mq_kv_groups::run(alloc, geometry.meta(), requests, held)? {
+        match crate::group::run(alloc, geometry.meta(), requests, held)? {
             KvOutcome::Done(done) => {
                 let frees = Vec::new(alloc);
                 Ok(Outcome::Done(KvMade { done, frees }))

@@ -26,7 +26,7 @@ use Rattle.mq_kv_buckets.specs.declared.operation.KvOp.{KvOp}
 use Rattle.mq_kv_entries.proofs.Entries.{meta-home}
 use Rattle.mq_kv_entries.specs.Group.{store_group}
 use Rattle.mq_kv_entries.specs.declared.entry.KvEntry.{KvEntry}
-use Rattle.mq_kv_groups.proofs.Members.{cons-here}
+use Rattle.mq_kv_entries.proofs.Members.{cons-here}
 use Rattle.mq_kv_run.specs.Drives.{HasDriven, emu_ghosts}
 use Rattle.mq_kv_run.specs.Endings.{finishes}
 use Rattle.mq_kv_run.specs.Groups.{IsReached, Point}

@@ -7,8 +7,8 @@ use Rattle.mq_kv.proofs.AlikeBuckets.{Alike, after-alike}
 use Rattle.mq_kv_buckets.specs.Store.{map_after_ops}
 use Rattle.mq_kv_buckets.specs.declared.operation.KvOp.{KvOp}
 use Rattle.mq_kv_entries.proofs.Entries.{looked-low, some-buckets}
-use Rattle.mq_kv_groups.specs.Groups.{IsDifference}
-use Rattle.mq_kv_groups.proofs.GroupsDone.{differs-looked}
+use Rattle.mq_kv_entries.specs.Groups.{IsDifference}
+use Rattle.mq_kv_entries.proofs.GroupsDone.{differs-looked}
 use Rattle.mq_pages.specs.declared.page.Write.{Write}
 
 -- the same blocks are changed

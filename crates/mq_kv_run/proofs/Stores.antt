@@ -15,7 +15,7 @@ use Rattle.mq_kv_buckets.specs.Store.{AreBuckets, Runs, Store, kv_of, map_after_
 use Rattle.mq_kv_buckets.specs.declared.operation.KvOp.{KvOp}
 use Rattle.mq_kv_buckets.specs.declared.operation.KvReply.{KvReply}
 use Rattle.mq_kv_buckets.proofs.StoreLaws.{groups-run}
-use Rattle.mq_kv_groups.specs.Groups.{IsDifference}
+use Rattle.mq_kv_entries.specs.Groups.{IsDifference}
 use Rattle.mq_kv_run.specs.Groups.{AreTold, IsCommit, IsTold, Point, Writes, committed, cut_off, next, read, too_large, whole}
 use Rattle.mq_kv_run.specs.Stores.{LeaveStore, store_at}
 use Rattle.mq_kv_text.specs.declared.report.GroupReport.{GroupReport}

@@ -6,7 +6,7 @@ use Rattle.mq_blocks.specs.Machine.{Map}
 use Rattle.mq_blocks.specs.declared.geometry.Geometry.{Geometry}
 use Rattle.mq_kv_buckets.specs.Store.{map_after_ops, replies_on}
 use Rattle.mq_kv_buckets.specs.declared.operation.KvOp.{KvOp}
-use Rattle.mq_kv_groups.specs.Groups.{IsDifference}
+use Rattle.mq_kv_entries.specs.Groups.{IsDifference}
 use Rattle.mq_kv_text.specs.declared.report.GroupReport.{GroupReport}
 use Rattle.mq_kv_text.specs.declared.report.GroupReport.TheVariants.{Large, Off, Synced}
 use Rattle.mq_pages.specs.declared.page.Write.{Write}

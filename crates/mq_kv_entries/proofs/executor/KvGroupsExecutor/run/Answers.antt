@@ -2,8 +2,8 @@ use Rattle.std.proofs.Common.{ℕ, subst}
 use Rattle.std.proofs.lemmas.List.Elements.{Contains-get_or}
 use Rattle.std.specs.Prelude.{slice_index_or}
 use Rattle.mq_kv_entries.proofs.Entries.{looked-low, meta-home}
-use Rattle.mq_kv_groups.specs.Groups.{Answers}
-use Rattle.mq_kv_groups.specs.declared.outcome.KvOutcome.TheVariants.{Done, Need}
+use Rattle.mq_kv_entries.specs.Groups.{Answers}
+use Rattle.mq_kv_entries.specs.declared.outcome.KvOutcome.TheVariants.{Done, Need}
 use Rattle.mq_kv_entries.proofs.executor.KvGroupsExecutor.run.Goals as goal
 
 pub returns-in-Done : goal.returns-in-Done

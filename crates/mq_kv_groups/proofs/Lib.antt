@@ -1,6 +1,0 @@
-pub mod Members
-pub mod LawsAlike
-pub mod WorkingStepped
-pub mod GroupsDone
-pub mod Differences
-pub mod Lacking
