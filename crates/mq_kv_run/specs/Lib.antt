@@ -8,3 +8,5 @@ pub mod Recovering
 pub mod Refusals
 pub mod Runs
 pub mod Stores
+pub mod Trails
+pub mod Images

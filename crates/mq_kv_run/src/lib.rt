@@ -8,6 +8,7 @@ mod laws;
 mod limits;
 mod options;
 mod playing;
+mod promise_laws;
 mod ran;
 mod refusal;
 mod running;
@@ -16,6 +17,7 @@ mod storing;
 
 pub use laws::reported_groups_run_on_the_store;
 pub use options::KvOptions;
+pub use promise_laws::a_run_keeps_its_promise;
 pub use ran::KvRun;
 pub use refusal::KvRunRefusal;
 pub use running::run_groups;

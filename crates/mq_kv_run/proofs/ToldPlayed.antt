@@ -31,7 +31,7 @@ use Rattle.mq_sessions.specs.declared.answers.RefusalCause.TheVariants.{Drive, O
 use Rattle.mq_turns.specs.Lists.{Each}
 use Rattle.mq_turns.specs.Meaning.{newest}
 use Rattle.mq_turns.proofs.Lists.{each_append, each_map}
-use Rattle.mq_kv_laws.proofs.ToldLists.{each-right}
+use Rattle.mq_kv_run.proofs.ToldLists.{each-right}
 
 module _ {P : Type 0} {G : Ghosts P} where
   -- it drew an entry at the number

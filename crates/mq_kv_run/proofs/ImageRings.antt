@@ -16,8 +16,8 @@ use Rattle.mq_kv_entries.specs.Entries.{tx_of}
 use Rattle.mq_kv_entries.specs.Group.{store_group}
 use Rattle.mq_kv_entries.specs.declared.entry.KvEntry.{KvEntry}
 use Rattle.mq_kv_run.specs.Groups.{IsReached, Point, with_cut, without}
-use Rattle.mq_kv_laws.specs.Trails.{AreOfFirst, IsNewest, IsPointAt}
-use Rattle.mq_kv_laws.proofs.ImageEnds as at_end
+use Rattle.mq_kv_run.specs.Trails.{AreOfFirst, IsNewest, IsPointAt}
+use Rattle.mq_kv_run.proofs.ImageEnds as at_end
 use Rattle.mq_ledger.specs.History.{IsAt, of_queue, writes}
 use Rattle.mq_ledger.specs.Items.{below, descriptor_blocks, end_of}
 use Rattle.mq_ledger.specs.KnownJournal.{front}

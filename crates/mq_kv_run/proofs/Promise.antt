@@ -13,10 +13,10 @@ use Rattle.mq_kv_run.specs.declared.options.KvOptions.{KvOptions}
 use Rattle.mq_kv_run.specs.declared.ran.KvRun.{KvRun}
 use Rattle.mq_kv_run.specs.declared.storing.StoreEnd.{StoreEnd}
 use Rattle.mq_kv_text.specs.declared.report.GroupReport.{GroupReport}
-use Rattle.mq_kv_laws.specs.Images.{shape_at}
-use Rattle.mq_kv_laws.proofs.ImagePromise.{keeps-promise}
-use Rattle.mq_kv_laws.proofs.ImageViews.{first-at}
-use Rattle.mq_kv_laws.proofs.ToldFollows.{Follows, follows}
+use Rattle.mq_kv_run.specs.Images.{shape_at}
+use Rattle.mq_kv_run.proofs.ImagePromise.{keeps-promise}
+use Rattle.mq_kv_run.proofs.ImageViews.{first-at}
+use Rattle.mq_kv_run.proofs.ToldFollows.{Follows, follows}
 
 module _ (x : DriveImage) (groups : List (List KvOp)) (o : KvOptions) (r : KvRun) (run : IsRunOf x groups o r) where
   abbrev end : StoreEnd EmuPort

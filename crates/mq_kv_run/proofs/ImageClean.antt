@@ -19,7 +19,7 @@ use Rattle.mq_kv_entries.specs.Entries.{tx_of}
 use Rattle.mq_kv_entries.specs.Group.{store_group}
 use Rattle.mq_kv_entries.specs.declared.entry.KvEntry.{KvEntry}
 use Rattle.mq_kv_run.specs.Promise.{IsCleanAt}
-use Rattle.mq_kv_laws.proofs.ImageEnds as at_end
+use Rattle.mq_kv_run.proofs.ImageEnds as at_end
 use Rattle.mq_ledger.specs.History.{of_queue, upto}
 use Rattle.mq_ledger.proofs.History.{upto-at}
 use Rattle.mq_ledger.specs.Items.{end_of}

@@ -22,8 +22,8 @@ use Rattle.mq_kv_entries.specs.Group.{store_group}
 use Rattle.mq_kv_entries.specs.declared.entry.KvEntry.{KvEntry}
 use Rattle.mq_kv_run.specs.Groups.{IsReached, Point, with_cut, without}
 use Rattle.mq_kv_run.specs.Promise.{IsCutAt}
-use Rattle.mq_kv_laws.specs.Trails.{IsCutLast, IsNewest, IsPointAt}
-use Rattle.mq_kv_laws.proofs.ImageEnds as at_end
+use Rattle.mq_kv_run.specs.Trails.{IsCutLast, IsNewest, IsPointAt}
+use Rattle.mq_kv_run.proofs.ImageEnds as at_end
 use Rattle.mq_ledger.specs.History.{map_after, upto}
 use Rattle.mq_ledger.specs.KnownJournal.{front}
 use Rattle.mq_recover.specs.Drives.{AreImages, states}

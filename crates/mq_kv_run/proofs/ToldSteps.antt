@@ -39,12 +39,12 @@ use Rattle.mq_turns.specs.Desk.{DrawAfterDraw, DrawAfterRead, ReadAfterDraw}
 use Rattle.mq_turns.specs.Lists.{Each, Sorted}
 use Rattle.mq_turns.specs.Meaning.{HasNumberAt, newest}
 use Rattle.mq_turns.proofs.Lists.{each_both, each_map}
-use Rattle.mq_kv_laws.specs.Trails.{IsPointAt}
-use Rattle.mq_kv_laws.proofs.ToldEntries.{entries-are}
-use Rattle.mq_kv_laws.proofs.ToldLists.{all-noted, below-first, drawn-last, each-left, each-right, noted, one-history, one-log, split}
+use Rattle.mq_kv_run.specs.Trails.{IsPointAt}
+use Rattle.mq_kv_run.proofs.ToldEntries.{entries-are}
+use Rattle.mq_kv_run.proofs.ToldLists.{all-noted, below-first, drawn-last, each-left, each-right, noted, one-history, one-log, split}
 use Rattle.mq_kv.proofs.AlikeBuckets.{Alike, after-alike, replies-alike}
-use Rattle.mq_kv_laws.proofs.ToldMaps.{difference-alike}
-use Rattle.mq_kv_laws.proofs.ToldPlayed.{Later, Waited}
+use Rattle.mq_kv_run.proofs.ToldMaps.{difference-alike}
+use Rattle.mq_kv_run.proofs.ToldPlayed.{Later, Waited}
 
 -- what a transaction makes of a map does not depend on its number
 after-numbered : (m : Map) (n : ℕ) (t : Tx) (b : ℕ) → after m (change_of (numbered n t)) b ≡ after m (change_of t) b

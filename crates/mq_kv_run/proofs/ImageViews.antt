@@ -39,14 +39,14 @@ use Rattle.mq_kv_run.specs.declared.ran.KvRun.{KvRun}
 use Rattle.mq_kv_run.specs.declared.storing.StoreEnd.{StoreEnd}
 use Rattle.mq_kv_text.specs.declared.report.LastLine.{LastLine}
 use Rattle.mq_kv_text.specs.declared.report.LastLine.TheVariants.{Clean}
-use Rattle.mq_kv_laws.specs.Images.{LeavesImage, desk_of, seat_of, shape_at}
-use Rattle.mq_kv_laws.specs.Trails.{FollowsTold, IsPointAt}
-use Rattle.mq_kv_laws.proofs.ImageClean as clean
-use Rattle.mq_kv_laws.proofs.ImageCuts as cuts
-use Rattle.mq_kv_laws.proofs.ImageEnds as at_end
-use Rattle.mq_kv_laws.proofs.ImageRecovering.{holds-home}
-use Rattle.mq_kv_laws.proofs.ImageRings as rings
-use Rattle.mq_kv_laws.proofs.ImageSeen.{played-seen}
+use Rattle.mq_kv_run.specs.Images.{LeavesImage, desk_of, seat_of, shape_at}
+use Rattle.mq_kv_run.specs.Trails.{FollowsTold, IsPointAt}
+use Rattle.mq_kv_run.proofs.ImageClean as clean
+use Rattle.mq_kv_run.proofs.ImageCuts as cuts
+use Rattle.mq_kv_run.proofs.ImageEnds as at_end
+use Rattle.mq_kv_run.proofs.ImageRecovering.{holds-home}
+use Rattle.mq_kv_run.proofs.ImageRings as rings
+use Rattle.mq_kv_run.proofs.ImageSeen.{played-seen}
 use Rattle.mq_ledger.specs.KnownJournal.{front}
 use Rattle.mq_ledger.specs.State.{port_at}
 use Rattle.mq_nvme.specs.Says.{journal_reading}

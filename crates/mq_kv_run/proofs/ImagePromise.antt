@@ -6,10 +6,10 @@ use Rattle.mq_drive.specs.Emu.{emu_faults, emu_state}
 use Rattle.mq_image.specs.File.{DriveImage}
 use Rattle.mq_kv_buckets.specs.declared.operation.KvOp.{KvOp}
 use Rattle.mq_kv_entries.proofs.Members.{cons-here, cons-there}
-use Rattle.mq_kv_laws.specs.Images.{LeavesImage, desk_of, seat_of, shape_at}
-use Rattle.mq_kv_laws.specs.Trails.{FollowsTold, IsNewest}
-use Rattle.mq_kv_laws.proofs.ImagePower.{ends, gone-off, holds}
-use Rattle.mq_kv_laws.proofs.ImageViews.{leaves}
+use Rattle.mq_kv_run.specs.Images.{LeavesImage, desk_of, seat_of, shape_at}
+use Rattle.mq_kv_run.specs.Trails.{FollowsTold, IsNewest}
+use Rattle.mq_kv_run.proofs.ImagePower.{ends, gone-off, holds}
+use Rattle.mq_kv_run.proofs.ImageViews.{leaves}
 use Rattle.mq_kv_run.specs.Groups.{AreTold, IsReached, Point, cut_off, next, whole, with_cut, without}
 use Rattle.mq_kv_run.specs.Promise.{KeepsPromise, first_point}
 use Rattle.mq_kv_run.specs.Runs.{IsRunOf}

@@ -25,10 +25,10 @@ use Rattle.mq_tie.specs.Closed.{HasRun}
 use Rattle.mq_tie.specs.declared.ended.Ended.{Ended}
 use Rattle.mq_turns.specs.Desk.{fresh}
 use Rattle.mq_turns.specs.Lists.{Each}
-use Rattle.mq_kv_laws.specs.Trails.{AreOfFirst, FollowsTold, IsNewest, IsPointAt}
-use Rattle.mq_kv_laws.proofs.ToldLists.{noted, one-history}
-use Rattle.mq_kv_laws.proofs.ToldPlayed.{Came, Drew, Later, Looked, came, came_drew, came_large, came_off, came_off_drew, came_off_saw, came_saw, ended, later-groups, later-on, later-rested}
-use Rattle.mq_kv_laws.proofs.ToldSteps.{Commits, commit-at, drawn-all, drawn-at, looked-at, waited-at}
+use Rattle.mq_kv_run.specs.Trails.{AreOfFirst, FollowsTold, IsNewest, IsPointAt}
+use Rattle.mq_kv_run.proofs.ToldLists.{noted, one-history}
+use Rattle.mq_kv_run.proofs.ToldPlayed.{Came, Drew, Later, Looked, came, came_drew, came_large, came_off, came_off_drew, came_off_saw, came_saw, ended, later-groups, later-on, later-rested}
+use Rattle.mq_kv_run.proofs.ToldSteps.{Commits, commit-at, drawn-all, drawn-at, looked-at, waited-at}
 
 module _ {P : Type 0} (G : Ghosts P) (state : P → PortState) (faults : P → List PortFault) (g : Geometry) (ports : Ports P) (s : Standing) (o : Start P KvEntry G) (last : Seat P KvEntry G) (r : Ended P KvEntry G)
     (opened : IsOpenedOver state faults g ports s o) (run : HasRun state faults store_group o (last ∷ []) r) where

@@ -1,5 +1,0 @@
-use Rattle.mq_kv_laws.proofs.Promise.{keeps}
-use Rattle.mq_kv_laws.proofs.laws.a_run_keeps_its_promise.Goals as goal
-
-pub returns : goal.returns
-returns c = λ x groups o r run. keeps x groups o r run
