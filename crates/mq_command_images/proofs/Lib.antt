@@ -1,3 +1,4 @@
 pub mod CommandsExact
 pub mod CommandsSaying
 pub mod Recovers
+pub mod Checks

@@ -2,3 +2,4 @@ pub mod Commands
 pub mod Lines
 pub mod Names
 pub mod Recovers
+pub mod Checks

@@ -2,15 +2,19 @@
 #![tactic(auto)]
 
 mod answer;
+mod checking;
 mod dumping;
 mod formatting;
+mod line;
 mod lines;
 mod listing;
 mod loading;
 mod names;
 mod recovering;
+mod standing;
 
 pub use answer::{Answer, refuse_drive, refuse_volume, say_answer};
+pub use checking::check;
 pub use dumping::dump;
 pub use formatting::{Numbers, format};
 pub use listing::{cat, ls};

@@ -16,7 +16,7 @@ use Rattle.mq_command_blocks.specs.Left.{SavesLeft, SavesTrace}
 use Rattle.mq_command_blocks.specs.Picked.{IsRunBy, pick_of}
 use Rattle.mq_command_blocks.specs.SaysOfBlocks.{SaysOfBlocks, printed}
 use Rattle.mq_command_blocks.specs.SaysOfBlocks as blocks_says
-use Rattle.mq_command_check.specs.Checks.{Checks}
+use Rattle.mq_command_images.specs.Checks.{Checks}
 use Rattle.mq_command_run.specs.Generates.{Generates, IsPlayOf, SavesUnder, generated}
 use Rattle.mq_command_run.specs.Generates as generates
 use Rattle.mq_command_run.specs.declared.generated.Generated.{Generated}

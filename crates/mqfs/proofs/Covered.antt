@@ -8,7 +8,7 @@ use Rattle.mq_command_audit.specs.Audits.{Audits, accepts, misreads}
 use Rattle.mq_command_audit.specs.Audits as audits
 use Rattle.mq_command_blocks.specs.SaysOfBlocks.{SaysOfBlocks, bad_text, good_text}
 use Rattle.mq_command_blocks.specs.SaysOfBlocks as blocks_says
-use Rattle.mq_command_check.specs.Checks.{Checks, checked, not_checked}
+use Rattle.mq_command_images.specs.Checks.{Checks, checked, not_checked}
 use Rattle.mq_command_run.specs.Generates.{Generates}
 use Rattle.mq_command_run.specs.Generates as generates
 use Rattle.mq_command_run.specs.declared.workload.Workload.{Workload}

@@ -4,7 +4,7 @@ use Rattle.std.specs.Prelude.{bytes_eq, option_to_list, unwrap_or}
 use Rattle.mq_audit.specs.Traces.{IsMisread}
 use Rattle.mq_command_audit.specs.Audits.{Audits, misread_line}
 use Rattle.mq_command_audit.specs.Audits as audits
-use Rattle.mq_command_check.specs.Checks.{Checks, checked, not_checked}
+use Rattle.mq_command_images.specs.Checks.{Checks, checked, not_checked}
 use Rattle.mq_command_images.specs.Commands.{Dumps, Formats, Lists, SaysNothing, SaysOfImage, ShowsFile, dumped, formatted, is_image, listed, no_file, no_geometry, no_image, not_dumped, not_listed, not_saved, not_shown, shown, wants_memory}
 use Rattle.mq_command_run.specs.Generates.{Generates, SavesUnder, generated}
 use Rattle.mq_command_run.specs.Generates as generates

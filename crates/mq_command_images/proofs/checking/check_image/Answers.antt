@@ -2,14 +2,14 @@ use Rattle.std.proofs.Common.{◌≡◌, ◌≢◌, ⊎_elim, List, Option, Resu
 use Rattle.std.specs.Prelude.{IfOk}
 use Rattle.mq_check.specs.Verdicts.{Judges}
 use Rattle.mq_check.specs.declared.verdict.Verdict.{Verdict}
-use Rattle.mq_command_check.specs.Checks.{Checks, not_checked, verdict_line}
+use Rattle.mq_command_images.specs.Checks.{Checks, not_checked, verdict_line}
 use Rattle.mq_command_images.specs.Lines.{drive_line}
 use Rattle.mq_command_images.specs.declared.answer.Answer.{Answer}
 use Rattle.mq_image.specs.File.{DriveImage}
 use Rattle.mq_recover.specs.declared.refusal.ImageFault.TheVariants as image
 use Rattle.mq_command_images.proofs.CommandsSaying.{refused-as}
-use Rattle.mq_command_check.proofs.Checks.{checks-as}
-use Rattle.mq_command_check.proofs.checking.check_image.Goals as goal
+use Rattle.mq_command_images.proofs.Checks.{checks-as}
+use Rattle.mq_command_images.proofs.checking.check_image.Goals as goal
 
 pub returns-in-Ok : goal.returns-in-Ok
 returns-in-Ok c =

@@ -5,7 +5,7 @@ use Rattle.mq_blocks.specs.Descriptor.{Descriptor}
 use Rattle.mq_blocks.specs.declared.geometry.Geometry.{Geometry}
 use Rattle.mq_check.specs.Verdicts.{Judges}
 use Rattle.mq_check.specs.declared.verdict.Verdict.{Verdict}
-use Rattle.mq_command_check.specs.Checks.{Checks, checked, not_checked, verdict_line}
+use Rattle.mq_command_images.specs.Checks.{Checks, checked, not_checked, verdict_line}
 use Rattle.mq_command_images.specs.Commands.{SaysOfImage}
 use Rattle.mq_command_images.proofs.CommandsExact.{Ends, image-where}
 use Rattle.mq_command_images.proofs.CommandsSaying.{said-as}

@@ -1,10 +1,10 @@
 // The line of a verdict.
 ghost use Rattle.std.specs.Prelude.{◌≡◌, IfOk};
 ghost use Rattle.std.specs.String.{string_bytes};
-ghost use Rattle.mq_command_check.specs.Checks.{verdict_line};
+ghost use Rattle.mq_command_images.specs.Checks.{verdict_line};
 
 use mq_check::Verdict;
-use mq_command_images::name_of_corrupt;
+use crate::names::name_of_corrupt;
 use std::alloc::{AllocError, Global};
 
 /// The line that `check` prints for a verdict.

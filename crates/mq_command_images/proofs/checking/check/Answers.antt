@@ -1,9 +1,9 @@
-use Rattle.mq_command_check.specs.Checks.{Checks}
+use Rattle.mq_command_images.specs.Checks.{Checks}
 use Rattle.mq_command_images.specs.declared.answer.Answer.{Answer}
-use Rattle.mq_command_check.proofs.Checks.{checked-where, unchecked-where}
+use Rattle.mq_command_images.proofs.Checks.{checked-where, unchecked-where}
 use Rattle.mq_command_images.proofs.CommandsExact.{refused-where}
 use Rattle.mq_command_images.proofs.CommandsSaying.{name-same, says-no-image, says-of-image}
-use Rattle.mq_command_check.proofs.checking.check.Goals as goal
+use Rattle.mq_command_images.proofs.checking.check.Goals as goal
 
 pub check_image-requires : goal.check_image-requires
 check_image-requires g c = c.in-Ok.ensures.ok.2.drive
