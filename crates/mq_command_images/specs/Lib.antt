@@ -3,3 +3,4 @@ pub mod Lines
 pub mod Names
 pub mod Recovers
 pub mod Checks
+pub mod Audits

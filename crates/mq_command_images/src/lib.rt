@@ -2,6 +2,7 @@
 #![tactic(auto)]
 
 mod answer;
+mod auditing;
 mod checking;
 mod dumping;
 mod formatting;
@@ -12,8 +13,10 @@ mod loading;
 mod names;
 mod recovering;
 mod standing;
+mod trace_lines;
 
 pub use answer::{Answer, refuse_drive, refuse_volume, say_answer};
+pub use auditing::audit;
 pub use checking::check;
 pub use dumping::dump;
 pub use formatting::{Numbers, format};

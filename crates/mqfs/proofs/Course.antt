@@ -9,8 +9,8 @@ use Rattle.mq_block_trace.specs.Prefixes.{IsPrefixAt}
 use Rattle.mq_cli.specs.Asked.{Asked, Words, asked_of, audit, blocks, cat, check, dump, format, gen, help, loose, ls, recover, replicate, run, version}
 use Rattle.mq_cli.specs.declared.command.BlocksOptions.{BlocksOptions}
 use Rattle.mq_cli.specs.declared.command.RunFlags.{RunFlags}
-use Rattle.mq_command_audit.specs.Audits.{Audits}
-use Rattle.mq_command_audit.specs.Audits as audits
+use Rattle.mq_command_images.specs.Audits.{Audits}
+use Rattle.mq_command_images.specs.Audits as audits
 use Rattle.mq_command_blocks.specs.Blocks.{IsBlockText}
 use Rattle.mq_command_blocks.specs.Left.{SavesLeft, SavesTrace}
 use Rattle.mq_command_blocks.specs.Picked.{IsRunBy, pick_of}

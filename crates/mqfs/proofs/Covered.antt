@@ -4,8 +4,8 @@ use Rattle.std.specs.Prelude.{if◌then◌else◌}
 use Rattle.std.specs.Option.{unwrap_or}
 use Rattle.mq_blocks.specs.Geometry.{queues_of}
 use Rattle.mq_cli.specs.declared.command.BlocksOptions.{BlocksOptions}
-use Rattle.mq_command_audit.specs.Audits.{Audits, accepts, misreads}
-use Rattle.mq_command_audit.specs.Audits as audits
+use Rattle.mq_command_images.specs.Audits.{Audits, accepts, misreads}
+use Rattle.mq_command_images.specs.Audits as audits
 use Rattle.mq_command_blocks.specs.SaysOfBlocks.{SaysOfBlocks, bad_text, good_text}
 use Rattle.mq_command_blocks.specs.SaysOfBlocks as blocks_says
 use Rattle.mq_command_images.specs.Checks.{Checks, checked, not_checked}

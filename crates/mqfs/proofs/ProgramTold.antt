@@ -2,8 +2,8 @@
 use Rattle.std.proofs.Common.{◌≡◌, ◌≢◌, ◌≤◌, ◌<◌, ◌⊎◌, inl, inr, ℕ, suc, Bool, cond, true, false, List, [], ◌∷◌, ◌++◌, get_or, length, Option, Some, None, refl, sym, ◌∙◌, ap, subst, arith}
 use Rattle.std.specs.Prelude.{bytes_eq, option_to_list, unwrap_or}
 use Rattle.mq_audit.specs.Traces.{IsMisread}
-use Rattle.mq_command_audit.specs.Audits.{Audits, misread_line}
-use Rattle.mq_command_audit.specs.Audits as audits
+use Rattle.mq_command_images.specs.Audits.{Audits, misread_line}
+use Rattle.mq_command_images.specs.Audits as audits
 use Rattle.mq_command_images.specs.Checks.{Checks, checked, not_checked}
 use Rattle.mq_command_images.specs.Commands.{Dumps, Formats, Lists, SaysNothing, SaysOfImage, ShowsFile, dumped, formatted, is_image, listed, no_file, no_geometry, no_image, not_dumped, not_listed, not_saved, not_shown, shown, wants_memory}
 use Rattle.mq_command_run.specs.Generates.{Generates, SavesUnder, generated}

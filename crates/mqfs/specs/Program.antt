@@ -1,7 +1,7 @@
 -- What the program says to words, and what its status reports.
 use Rattle.std.specs.Prelude.{◌≡◌, ◌⊎◌, ◌≤◌, ℕ, ◌+◌, ◌*◌, false, List, [], ◌∷◌, ◌++◌, length, All, Option, Some, None, option_to_list, codes, bytes_eq}
 use Rattle.mq_audit.specs.Traces.{IsMisread}
-use Rattle.mq_command_audit.specs.Audits.{misread_line}
+use Rattle.mq_command_images.specs.Audits.{misread_line}
 use Rattle.mq_command_run.specs.RunsScripts.{Runs}
 use Rattle.mq_command_io.specs.Ending.{IsLoaded, TakesOver, memory_line}
 use Rattle.mq_image.specs.File.{DriveImage}

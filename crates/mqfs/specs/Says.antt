@@ -1,7 +1,7 @@
 -- What there is to say of what words ask, and with which status: one definition for each command.
 use Rattle.std.specs.Prelude.{◌≡◌, ℕ, List, Option, Some, None, option_map}
 use Rattle.std.specs.Option.{unwrap_or}
-use Rattle.mq_command_audit.specs.Audits.{Audits}
+use Rattle.mq_command_images.specs.Audits.{Audits}
 use Rattle.mq_command_images.specs.Checks.{Checks}
 use Rattle.mq_command_images.specs.Commands.{Dumps, Formats, Lists, SaysOfImage, ShowsFile}
 use Rattle.mq_command_run.specs.Generates.{Generates}

@@ -1,11 +1,11 @@
 use Rattle.std.proofs.Common.{ℕ, List, subst}
 use Rattle.std.specs.Prelude.{IfOk}
-use Rattle.mq_command_audit.specs.Audits.{Audits}
+use Rattle.mq_command_images.specs.Audits.{Audits}
 use Rattle.mq_command_images.specs.declared.answer.Answer.{Answer}
-use Rattle.mq_command_audit.proofs.Audits.{misread-where, trace-where}
+use Rattle.mq_command_images.proofs.Audits.{misread-where, trace-where}
 use Rattle.mq_command_images.proofs.CommandsSaying.{says, says-not}
 use Rattle.mq_command_io.proofs.Ending.{not-loaded-same}
-use Rattle.mq_command_audit.proofs.auditing.audit.Goals as goal
+use Rattle.mq_command_images.proofs.auditing.audit.Goals as goal
 
 pub returns-in-Ok-clause-ends : goal.returns-in-Ok-clause-ends
 returns-in-Ok-clause-ends g c =

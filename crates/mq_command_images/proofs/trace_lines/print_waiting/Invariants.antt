@@ -1,6 +1,6 @@
 use Rattle.std.proofs.Common.{◌≡◌, ◌++◌, drop}
-use Rattle.mq_command_audit.specs.Audits.{spaced_line, waiting_line}
-use Rattle.mq_command_audit.proofs.lines.print_waiting.Given as goal
+use Rattle.mq_command_images.specs.Audits.{spaced_line, waiting_line}
+use Rattle.mq_command_images.proofs.trace_lines.print_waiting.Given as goal
 
 -- what is printed, and the numbers that are left, are all
 abbrev pub invariant-loop-number : goal.invariant-loop-number

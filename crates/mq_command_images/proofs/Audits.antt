@@ -6,7 +6,7 @@ use Rattle.mq_audit.specs.Traces.{IsMisread, IsTrace, Trace}
 use Rattle.mq_audit.specs.declared.finding.Finding.{Finding}
 use Rattle.mq_audit.specs.declared.finding.Finding.TheVariants.{Accepted, Refused}
 use Rattle.mq_audit.proofs.TracesOnce.{trace_good}
-use Rattle.mq_command_audit.specs.Audits.{Audits, accepted_text, accepts, finding_text, misread_line, misreads, refused_line, refuses}
+use Rattle.mq_command_images.specs.Audits.{Audits, accepted_text, accepts, finding_text, misread_line, misreads, refused_line, refuses}
 use Rattle.mq_command_images.proofs.CommandsExact.{Ends, says-where}
 use Rattle.mq_command_images.proofs.CommandsSaying.{said-as}
 use Rattle.mq_command_io.specs.Ending.{IsUnlessFailed}

@@ -1,14 +1,14 @@
 // `audit`: a trace is loaded, and what the journal's machine says of it is printed.
 ghost use Rattle.std.specs.Prelude.{◌≡◌, ℕ, List, IfOk, Some};
 ghost use Rattle.mq_audit.specs.Traces.{IsMisread, IsTrace, Trace};
-ghost use Rattle.mq_command_audit.specs.Audits.{Audits, misread_line};
+ghost use Rattle.mq_command_images.specs.Audits.{Audits, misread_line};
 ghost use Rattle.mq_command_io.specs.Ending.{EndsWith, IsUnlessFailed, SaysOf};
 ghost use Rattle.mq_outside.specs.Outside.{Tells};
 
-use crate::lines::{print_finding, print_misread};
+use crate::trace_lines::{print_finding, print_misread};
 use mq_audit::TraceRefusal;
 use mq_blocks::OutOfMemory;
-use mq_command_images::{Answer, say_answer};
+use crate::answer::{Answer, say_answer};
 use mq_command_io::{DONE, REFUSED, load_or_say};
 use mq_outside::{Files, Sink};
 use std::alloc::Global;

@@ -1,7 +1,7 @@
 use Rattle.std.proofs.Common.{refl}
 use Rattle.mq_command_images.specs.declared.answer.Answer.{Answer}
-use Rattle.mq_command_audit.proofs.Audits.{audits-as, misread-as}
-use Rattle.mq_command_audit.proofs.auditing.audit_bytes.Goals as goal
+use Rattle.mq_command_images.proofs.Audits.{audits-as, misread-as}
+use Rattle.mq_command_images.proofs.auditing.audit_bytes.Goals as goal
 
 pub returns-in_ok-print_finding-in-Ok : goal.returns-in_ok-print_finding-in-Ok
 returns-in_ok-print_finding-in-Ok c = audits-as c.args.bytes.now c.in-Ok.finding 0 c.in_ok-print_finding-in-Ok.field-0.items c.in-Ok.ensures.found refl c.in_ok-print_finding-in-Ok.ensures

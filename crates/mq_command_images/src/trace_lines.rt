@@ -1,7 +1,7 @@
 // The texts of findings and of refused lines.
 ghost use Rattle.std.specs.Prelude.{◌≡◌, ◌∷◌, IfOk, decimal};
 ghost use Rattle.std.specs.String.{string_bytes};
-ghost use Rattle.mq_command_audit.specs.Audits.{counts_line, finding_text, misread_line, reach_line, refused_line, waiting_line};
+ghost use Rattle.mq_command_images.specs.Audits.{counts_line, finding_text, misread_line, reach_line, refused_line, waiting_line};
 
 use mq_audit::Finding;
 use mq_blocks::{OutOfMemory, TxNo};
