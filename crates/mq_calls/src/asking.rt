@@ -8,11 +8,11 @@ ghost use Rattle.mq_calls.specs.Asking.{IsFirstChange, IsNotAnswered, refusal_at
 ghost use Rattle.mq_calls.specs.Sessions.{IsReady};
 
 use crate::answers::Answer;
-use mq_queue_side::{CallCause, Refusal};
 use crate::rounds::run_held;
 use crate::session::{Mqfs, Session};
 use mq_blocks::OutOfMemory;
 use mq_drive::Port;
+use mq_queue_side::{CallCause, Refusal};
 use mq_sessions::{Asked, CALL_LIMIT, read_group};
 use mq_tree::{Request, changes};
 use std::alloc::Global;

@@ -9,10 +9,10 @@ ghost use Rattle.mq_calls.specs.Sessions.{IsReady};
 ghost use Rattle.mq_calls.specs.Synchronizing.{IsDurable, IsNotDurable, WasDrainRefused};
 
 use crate::answers::Answer;
-use mq_queue_side::{CallCause, Refusal};
 use crate::session::{Mqfs, Session};
 use mq_drive::Port;
 use mq_journal::drain_all;
+use mq_queue_side::{CallCause, Refusal};
 use mq_sessions::{CALL_LIMIT, Gate, Point, RefusalCause};
 use mq_tree::Request;
 use std::alloc::Global;

@@ -8,8 +8,8 @@ ghost use Rattle.mq_calls.specs.Sessions.{IsReady};
 
 use crate::session::{Mqfs, Session};
 use mq_blocks::TxNo;
-use mq_journal::{CheckpointRefusal, checkpoint};
 use mq_drive::Port;
+use mq_journal::{CheckpointRefusal, checkpoint};
 use std::alloc::Global;
 use std::sync::Wait;
 

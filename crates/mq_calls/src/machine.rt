@@ -1,9 +1,9 @@
 // The machine of a file system.
+use crate::entry::FileEntry;
+use crate::entry_laws::a_done_group_may_be_drawn;
 use mq_blocks::{BlockNo, Geometry, OutOfMemory, QueueNo};
 use mq_desk_laws::JournalValues;
 use mq_exec::{Done, View};
-use crate::entry::FileEntry;
-use crate::entry_laws::a_done_group_may_be_drawn;
 use mq_journal::{Groups, JournalMachine};
 use mq_pages::{Held, Write};
 use mq_revoke::Placement;

@@ -5,10 +5,10 @@ ghost use Rattle.mq_command_images.specs.Audits.{Audits, misread_line};
 ghost use Rattle.mq_command_io.specs.Ending.{EndsWith, IsUnlessFailed, SaysOf};
 ghost use Rattle.mq_outside.specs.Outside.{Tells};
 
+use crate::answer::{Answer, say_answer};
 use crate::trace_lines::{print_finding, print_misread};
 use mq_audit::TraceRefusal;
 use mq_blocks::OutOfMemory;
-use crate::answer::{Answer, say_answer};
 use mq_command_io::{DONE, REFUSED, load_or_say};
 use mq_outside::{Files, Sink};
 use std::alloc::Global;

@@ -14,11 +14,11 @@ ghost use Rattle.mq_image_ops.specs.Standing.{Reads, RefusesDrive};
 ghost use Rattle.mq_outside.specs.Outside.{Tells};
 ghost use Rattle.mq_recover.specs.declared.refusal.ImageFault.{ImageFault};
 
-use crate::line::line_of_verdict;
+use crate::answer::{Answer, refuse_drive, say_answer};
+use crate::check_line::line_of_verdict;
+use crate::loading::load_image;
 use crate::standing::standing_blocks;
 use mq_blocks::{Block, Geometry, OutOfMemory};
-use crate::answer::{Answer, refuse_drive, say_answer};
-use crate::loading::load_image;
 use mq_command_io::DONE;
 use mq_image::DriveImage;
 use mq_outside::{Files, Sink};

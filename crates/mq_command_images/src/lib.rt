@@ -3,10 +3,10 @@
 
 mod answer;
 mod auditing;
+mod check_line;
 mod checking;
 mod dumping;
 mod formatting;
-mod line;
 mod lines;
 mod listing;
 mod loading;

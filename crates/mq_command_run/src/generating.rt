@@ -9,9 +9,9 @@ ghost use Rattle.mq_tree.specs.Counts.{counts_in};
 ghost use Rattle.mq_tree.specs.Volume.{Volume};
 
 use crate::generated::Generated;
-use crate::workload_laws::a_workload_is_refused_only_for_memory;
 use crate::playing::{play, settle_all};
 use crate::shape::shape;
+use crate::workload_laws::a_workload_is_refused_only_for_memory;
 use mq_blocks::OutOfMemory;
 use mq_calls::Gate;
 use mq_image::{DriveImage, write_image};

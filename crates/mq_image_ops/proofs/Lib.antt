@@ -9,3 +9,4 @@ pub mod Views
 pub mod Standing
 pub mod RecoveringTally
 pub mod StandingVolumes
+pub mod ViewsFiles

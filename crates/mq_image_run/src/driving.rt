@@ -17,12 +17,12 @@ ghost use Rattle.mq_run.specs.Playing.{IsShort};
 use crate::options::RunOptions;
 use mq_blocks::{Geometry, OutOfMemory, TxNo};
 use mq_calls::{Gate, find_volume};
-use mq_journal::CheckpointRefusal;
 use mq_drive::{EmuPort, Fuse, FuseSeat, PortImage, Ports};
 use mq_image_ops::{
     CutDrive, RecoveredImage, StandingRefusal, a_recovered_image_holds_what_stood,
     a_recovered_image_starts, cut_ports, start_ports,
 };
+use mq_journal::CheckpointRefusal;
 use mq_recover::Standing;
 use mq_report::{Line, Told};
 use mq_run::{RunEnd, a_run_keeps_its_ports, run_scripts};

@@ -7,10 +7,10 @@ ghost use Rattle.mq_turns.specs.Meaning.{newest};
 ghost use Rattle.mq_journal.specs.Numbers.{Shared, machine};
 ghost use Rattle.mq_journal.specs.Steps.{IsRefusedBy, MovesOn};
 
-use mq_blocks::TxNo;
-use mq_drive::Port;
 use crate::machine::{Groups, JournalMachine};
 use crate::sweeping::drain_all;
+use mq_blocks::TxNo;
+use mq_drive::Port;
 use mq_queue_side::Cause;
 use mq_turns::{Chair, Desk};
 use std::sync::Wait;

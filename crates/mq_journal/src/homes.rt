@@ -8,10 +8,10 @@ ghost use Rattle.mq_journal.specs.Pages.{HoldsOnlyPage, IsDue, at_home};
 ghost use Rattle.mq_journal.specs.Ports.{IsHomeOf, WritesHome, answer_of, port_of};
 ghost use Rattle.mq_journal.specs.Steps.{IsRefusedBy, MovesOn};
 
+use crate::machine::{Groups, JournalMachine};
 use crate::root_reporting::report_port;
 use mq_blocks::{Block, BlockNo, Geometry, Lba};
 use mq_drive::{HomeStep, Off, Port};
-use crate::machine::{Groups, JournalMachine};
 use mq_pages::PageCell;
 use mq_queue_side::Cause;
 use mq_turns::{Chair, Desk, Item, Turn};

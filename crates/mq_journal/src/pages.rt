@@ -7,12 +7,12 @@ ghost use Rattle.mq_turns.specs.AtDesk.{AtDesk, view, start_of};
 ghost use Rattle.mq_journal.specs.Pages.{AreNoted, HoldsOnlyPage, IsAtHome, IsCopyOf, IsNoted};
 ghost use Rattle.mq_journal.specs.Steps.{IsRefusedBy, MovesOn, RefusesCheckpoint};
 
-use crate::homes::write_home;
-use crate::refusal::CheckpointRefusal;
 use crate::catching_up::settle;
+use crate::homes::write_home;
+use crate::machine::{Groups, JournalMachine};
+use crate::refusal::CheckpointRefusal;
 use mq_blocks::{Block, BlockNo, Geometry, OutOfMemory, TxNo};
 use mq_drive::Port;
-use crate::machine::{Groups, JournalMachine};
 use mq_pages::PageCell;
 use mq_queue_side::Cause;
 use mq_turns::{Chair, Desk, Item, Turn};

@@ -6,13 +6,13 @@ ghost use Rattle.mq_desk_laws.specs.Rule.{shape_of};
 ghost use Rattle.mq_turns.specs.AtDesk.{AtDesk, view, start_of};
 ghost use Rattle.mq_journal.specs.Raised.{HasRefused, Raises};
 
+use crate::catching_up::settle;
+use crate::machine::{Groups, JournalMachine};
 use crate::pages::bring_pages;
 use crate::refusal::CheckpointRefusal;
 use crate::root::raise_to;
-use crate::catching_up::settle;
 use mq_blocks::{Geometry, TxNo};
 use mq_drive::Port;
-use crate::machine::{Groups, JournalMachine};
 use mq_turns::{Chair, Desk};
 use std::alloc::Global;
 use std::sync::Wait;

@@ -9,10 +9,10 @@ ghost use Rattle.mq_turns.specs.Desk.{Sees};
 ghost use Rattle.mq_journal.specs.Raised.{HasRaised, IsStored, KeepsStanding};
 ghost use Rattle.mq_journal.specs.Steps.{IsRefusedBy};
 
+use crate::machine::{Groups, JournalMachine};
 use crate::root_reporting::report_port;
 use mq_blocks::TxNo;
 use mq_drive::{Off, Port};
-use crate::machine::{Groups, JournalMachine};
 use mq_queue_side::{Cause, Root};
 use mq_turns::{Chair, Desk, Item, Turn};
 use std::sync::Wait;

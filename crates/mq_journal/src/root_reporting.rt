@@ -6,9 +6,9 @@ ghost use Rattle.mq_turns.specs.Desk.{slot_of};
 ghost use Rattle.mq_turns.specs.Lists.{times};
 ghost use Rattle.mq_journal.specs.Ports.{IsCharged, ShowsCharge, charge_of};
 
-use mq_drive::Port;
-use crate::machine::{Groups, JournalMachine};
 use crate::draining::report_of;
+use crate::machine::{Groups, JournalMachine};
+use mq_drive::Port;
 use mq_queue_side::Cause;
 use mq_turns::{Chair, Charge, Desk, Item, Turn};
 

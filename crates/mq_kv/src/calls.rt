@@ -9,8 +9,8 @@ ghost use Rattle.mq_turns.specs.AtDesk.{AtDesk, view};
 
 use crate::session::{Kv, KvSession};
 use mq_blocks::TxNo;
-use mq_journal::CheckpointRefusal;
 use mq_drive::Port;
+use mq_journal::CheckpointRefusal;
 use mq_kv_buckets::{KvOp, KvReply};
 use mq_sessions::{Answer, CALL_LIMIT, Refusal, RefusalCause, act, act_durably};
 use std::alloc::Global;

@@ -5,9 +5,9 @@ ghost use Rattle.mq_kv_entries.specs.Entries.{IsAllLogged, placed_by, reads_by};
 ghost use Rattle.mq_sessions.specs.Calls.{call_of};
 
 use crate::lists::{KvOps, KvReplies, blocks_of, copy_ops, copy_replies};
+use crate::outcome::KvDone;
 use mq_blocks::{BlockNo, OutOfMemory};
 use mq_kv_buckets::KvOp;
-use crate::outcome::KvDone;
 use mq_ledger::Blocks;
 use mq_pages::Write;
 use mq_revoke::Placement;

@@ -2,11 +2,11 @@
 ghost use Rattle.std.specs.Prelude.{◌≡◌, []};
 
 use crate::entry::KvEntry;
+use crate::outcome::{KvDone, KvOutcome};
 use mq_blocks::{BlockNo, Geometry, OutOfMemory, QueueNo};
 use mq_desk_laws::JournalValues;
 use mq_journal::Groups;
 use mq_kv_buckets::{KvOp, KvReply};
-use crate::outcome::{KvDone, KvOutcome};
 use mq_pages::{Held, Write};
 use mq_revoke::{Placement, a_plan_meets_the_guard};
 use mq_sessions::{Asked, Executor, Outcome, Reads};

@@ -35,7 +35,7 @@ use Rattle.mq_desk_laws.specs.Rule.{core_of, geometry_of, history, history_of, s
 use Rattle.mq_desk_laws.specs.Values.{Values}
 use Rattle.mq_queue_side.specs.declared.root.Root.{Root}
 use Rattle.mq_queue_side.specs.declared.side.QueueSide.{QueueSide}
-use Rattle.mq_run_laws.proofs.JournalTops.{top-of}
+use Rattle.mq_state_laws.proofs.ReadableTops.{top-of}
 use Rattle.mq_tie.specs.Closed.{HasRun}
 use Rattle.mq_tie.specs.Runs.{EndsLawfully, IsKnownDone, parts_of, ports_of}
 use Rattle.mq_tie.specs.declared.ended.Ended.{Ended}

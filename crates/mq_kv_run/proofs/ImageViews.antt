@@ -53,7 +53,7 @@ use Rattle.mq_nvme.specs.Says.{journal_reading}
 use Rattle.mq_recover.specs.Drives.{AreImages, drive_of, states}
 use Rattle.mq_recover.specs.Standing.{StandsIn}
 use Rattle.mq_recover.specs.declared.standing.Standing.{Standing}
-use Rattle.mq_run_laws.proofs.ViewsFiles.{file-shows}
+use Rattle.mq_image_ops.proofs.ViewsFiles.{file-shows}
 use Rattle.mq_tie.specs.Runs.{ports_of}
 use Rattle.mq_tie.specs.declared.ended.Ended.{Ended}
 

@@ -14,12 +14,12 @@ use crate::options::KvOptions;
 use crate::refusal::KvRunRefusal;
 use crate::storing::{StoreEnd, run_store};
 use mq_blocks::{Geometry, TxNo};
-use mq_journal::CheckpointRefusal;
 use mq_drive::{EmuPort, Fuse, FuseSeat, PortImage, Ports};
 use mq_image_ops::{
     CutDrive, RecoveredImage, a_recovered_image_holds_what_stood, a_recovered_image_starts,
     cut_ports, start_ports,
 };
+use mq_journal::CheckpointRefusal;
 use mq_kv::find_store;
 use mq_kv_entries::KvGroups;
 use mq_kv_text::{GroupReport, KvGroup};

@@ -1,8 +1,8 @@
 // What a run leaves.
 use mq_blocks::TxNo;
-use mq_journal::CheckpointRefusal;
-use mq_drive::{Port, Ports};
 use mq_calls::Placed;
+use mq_drive::{Port, Ports};
+use mq_journal::CheckpointRefusal;
 use mq_pages::PageCell;
 use mq_report::{Line, Told};
 

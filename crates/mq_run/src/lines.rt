@@ -6,9 +6,9 @@ ghost use Rattle.mq_run.specs.Lines.{AreCommitLines, IsCommitLine, IsNotAfter, e
 ghost use Rattle.mq_tie.specs.Runs.{history_of};
 
 use mq_blocks::OutOfMemory;
+use mq_calls::{Blocks, FileEntry, Placed};
 use mq_drive::Port;
 use mq_exec::copy_reply;
-use mq_calls::{Blocks, FileEntry, Placed};
 use mq_queue_side::Drawn;
 use mq_report::Line;
 use mq_script::End;

@@ -48,7 +48,7 @@ use Rattle.mq_run.specs.Runs.{HasRunScripts}
 use Rattle.mq_run.specs.declared.end.RunEnd.{RunEnd}
 use Rattle.mq_run_laws.proofs.AnswersDone.{acknowledged-low}
 use Rattle.mq_run_laws.proofs.LinesNumbered.{older}
-use Rattle.mq_run_laws.proofs.JournalTops.{top-of}
+use Rattle.mq_state_laws.proofs.ReadableTops.{top-of}
 use Rattle.mq_run_laws.proofs.RunsWhole.{are-lines, base-is, shape-is, start-is}
 
 module _ {Q R : Type 0} (values : Values Q R FileEntry) where

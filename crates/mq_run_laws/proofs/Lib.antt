@@ -7,7 +7,6 @@ pub mod NumbersViews
 pub mod RunsWhole
 pub mod AnswersGiven
 pub mod AnswersDone
-pub mod JournalTops
 pub mod Cuts
 pub mod CutsClean
 pub mod HistoriesShares
@@ -23,7 +22,6 @@ pub mod ItemsUndone
 pub mod EmuGained
 pub mod DrivesFailures
 pub mod Recovering
-pub mod ViewsFiles
 pub mod ViewsSaved
 pub mod Causes
 pub mod CausesEnds

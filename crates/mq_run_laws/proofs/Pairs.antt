@@ -10,6 +10,7 @@ use Rattle.std.proofs.lemmas.List.Kept.{AllPairs-cons}
 use Rattle.std.proofs.lemmas.List.Sorted.{IsPermutation-keeps}
 use Rattle.std.proofs.lemmas.Option.{same_Some, get_or_from_slice_get, slice_get_within}
 use Rattle.mq_run.specs.Lines.{joined}
+pub use Rattle.mq_state_laws.proofs.Members.{cons-cases, here, in-either, in-left, in-right, none-in, there}
 use Rattle.mq_turns.specs.Lists.{Each, times}
 use Rattle.mq_turns.proofs.Lists.{miss}
 
@@ -19,19 +20,6 @@ From a b m k = ((m ≡ a) × (k ≡ b)) ⊎ (((m ≡ b) × (k ≡ a)) ⊎ ((m �
 
 module _ {X : Type 0} where
   -- ---- elements
-
-  pub here : (x : X) (xs : List X) → Contains (x ∷ xs) x
-  here x xs = (0, omega arith, refl)
-
-  pub there : (x y : X) (ys : List X) → Contains ys x → Contains (y ∷ ys) x
-  there x y ys c = let l = c.1 in (suc c.0, omega arith, c.2)
-
-  pub cons-cases : (x y : X) (ys : List X) → Contains (y ∷ ys) x → (y ≡ x) ⊎ Contains ys x
-  cons-cases x y ys (zero, l, e) = inl e
-  cons-cases x y ys (suc k, l, e) = inr (k, omega arith, e)
-
-  pub none-in : (x : X) → Contains [] x → ⊥
-  none-in x c = let l = c.1 in absurd (omega arith)
 
   pub each-in : (P : X → Type 0) (xs : List X) (x : X) → Each P xs → Contains xs x → P x
   each-in P [] x h c = absurd (none-in x c)
@@ -80,21 +68,6 @@ module _ {X : Type 0} where
 
   pub pairs-one : (R : X → X → Type 0) (x : X) → AllPairs R (x ∷ [])
   pairs-one R x = pairs-cons R x [] (λ y c. absurd (none-in y c)) (pairs-none R)
-
-  pub in-left : (xs ys : List X) (x : X) → Contains xs x → Contains (xs ++ ys) x
-  in-left [] ys x c = absurd (none-in x c)
-  in-left (z ∷ zs) ys x c = elim (cons-cases x z zs c) [ inl e ↦ (0, omega arith, e) | inr c ↦ there x z (zs ++ ys) (in-left zs ys x c) ]
-
-  pub in-right : (xs ys : List X) (x : X) → Contains ys x → Contains (xs ++ ys) x
-  in-right [] ys x c = c
-  in-right (z ∷ zs) ys x c = there x z (zs ++ ys) (in-right zs ys x c)
-
-  pub in-either : (xs ys : List X) (x : X) → Contains (xs ++ ys) x → Contains xs x ⊎ Contains ys x
-  in-either [] ys x c = inr c
-  in-either (z ∷ zs) ys x c = elim (cons-cases x z (zs ++ ys) c) [
-    | inl e ↦ inl (0, omega arith, e)
-    | inr c ↦ elim (in-either zs ys x c) [ inl a ↦ inl (there x z zs a) | inr b ↦ inr b ]
-  ]
 
   pub pairs-append : (R : X → X → Type 0) (xs ys : List X) → AllPairs R xs → AllPairs R ys → ((x y : X) → Contains xs x → Contains ys y → R x y) → AllPairs R (xs ++ ys)
   pairs-append R [] ys a b both = b

@@ -47,7 +47,7 @@ use Rattle.mq_run_laws.specs.Recovering.{HoldsVolume, LeadsTo}
 use Rattle.mq_run_laws.proofs.AnswersGiven.{are-answered}
 use Rattle.mq_run_laws.proofs.CutsClean.{is-clean}
 use Rattle.mq_run_laws.proofs.Cuts.{is-cut}
-use Rattle.mq_run_laws.proofs.ViewsFiles.{file-shows}
+use Rattle.mq_image_ops.proofs.ViewsFiles.{file-shows}
 use Rattle.mq_run_laws.proofs.Recovering.{holds-volume}
 use Rattle.mq_run_laws.proofs.HistoriesRung.{is-rung}
 use Rattle.mq_run_laws.proofs.RunsWhole.{legal}

@@ -16,8 +16,8 @@ ghost use Rattle.mq_run_laws.specs.HistoryLaws.{NoSmallGroupIsLarge, NoGroupChan
 ghost use Rattle.mq_run_laws.specs.HistoryLaws.{NoLaterOneStopsAGroup, NoReachedOneFails, NoOtherStatusFails, NoAskIsStopped};
 ghost use Rattle.mq_run_laws.specs.HistoryLaws.{SpelledScriptsAreOfBytes, LogsDo, LogsLead};
 
-use mq_desk_laws::JournalValues;
 use mq_calls::FileEntry;
+use mq_desk_laws::JournalValues;
 
 /// A sound volume lies on exactly one map, and no other volume lies on that map. Where a volume stands on
 /// an image, each block of each of its maps does.

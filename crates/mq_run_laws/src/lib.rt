@@ -14,4 +14,6 @@ pub use laws::{
     a_refusal_on_an_image_is_backed, a_run_is_answered, a_run_is_cut, a_run_is_legal,
     a_run_is_rung, a_run_on_an_image_keeps_its_promise, every_interleaving_is_recovered,
 };
-pub use report_laws::{a_run_has_fit_replies, a_run_is_in_order, a_run_on_an_image_may_be_reported};
+pub use report_laws::{
+    a_run_has_fit_replies, a_run_is_in_order, a_run_on_an_image_may_be_reported,
+};

@@ -10,8 +10,8 @@ ghost use Rattle.mq_sessions.specs.Calls.{IsReady};
 
 use crate::users::User;
 use mq_blocks::{Geometry, TxNo};
-use mq_journal::{CheckpointRefusal, Groups, JournalMachine};
 use mq_drive::Port;
+use mq_journal::{CheckpointRefusal, Groups, JournalMachine};
 use mq_turns::Desk;
 use std::alloc::Global;
 use std::sync::Wait;

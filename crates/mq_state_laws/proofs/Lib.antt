@@ -5,3 +5,5 @@ pub mod PartsStates
 pub mod PartsGuards
 pub mod JournalTops
 pub mod Found
+pub mod Members
+pub mod ReadableTops

@@ -3,8 +3,8 @@ ghost use Rattle.std.specs.Prelude.{◌≡◌, IfOk};
 ghost use Rattle.std.specs.String.{string_bytes};
 ghost use Rattle.mq_command_images.specs.Checks.{verdict_line};
 
-use mq_check::Verdict;
 use crate::names::name_of_corrupt;
+use mq_check::Verdict;
 use std::alloc::{AllocError, Global};
 
 /// The line that `check` prints for a verdict.

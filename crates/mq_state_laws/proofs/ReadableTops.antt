@@ -7,7 +7,7 @@ use Rattle.mq_blocks.specs.Descriptor.{Descriptor}
 use Rattle.mq_blocks.specs.Limits.{depth}
 use Rattle.mq_blocks.specs.Journal.{AreWhole, Has, IsTop, WriteFields, ShowsNumber, Shown}
 use Rattle.mq_blocks.specs.declared.geometry.Geometry.{Geometry}
-use Rattle.mq_run_laws.proofs.Pairs.{cons-cases, here, in-either, in-left, in-right, none-in, there}
+use Rattle.mq_state_laws.proofs.Members.{cons-cases, here, in-either, in-left, in-right, none-in, there}
 
 -- the greatest of a list that has a first one
 record Greatest (xs : List ℕ) : Type 0 where
