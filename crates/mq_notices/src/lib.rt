@@ -11,8 +11,6 @@ mod notice;
 mod rule;
 mod serving;
 mod session;
-#[cfg(test)]
-mod tests;
 
 pub use closing::close;
 pub use helper::HelperEnd;
