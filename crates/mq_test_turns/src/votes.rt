@@ -1,4 +1,4 @@
-// A machine that is generic in a port, under whose sides ports lie, and threads that draw by it.
+// A machine that is generic in a port, under whose sides ports lie.
 ghost use Rattle.std.specs.Prelude.{◌≡◌, ℕ, ◌+◌, ◌%◌, ◌^◌, ◌<◌, ◌≤◌, [], ◌∷◌, All, Some, IfOk, OnOk, length, slice_get, vec_len, vec_capacity};
 ghost use Rattle.mq_turns.specs.Desk.{Follows, allotment, fresh};
 ghost use Rattle.mq_turns.specs.AtDesk.{AtDesk, view, start_of, chairs_of};
@@ -12,10 +12,11 @@ use std::alloc::Global;
 use std::marker::PhantomData;
 use std::sync::Wait;
 
-
+/// What counts the votes of a side.
 pub trait Port: Drop {
     ghost state: { Self → ℕ };
 
+    /// Counts a vote, modulo 2^64.
     fn bump(&mut self)
         ensures { state self.new ≡ (state self.old + 1) % 18446744073709551616 };
 }
@@ -34,6 +35,7 @@ impl Port for Word {
     }
 }
 
+/// The side of a queue, with the port that counts its votes.
 #[derive(Drop)]
 pub struct QueueSide<P: Port> {
     pub port: P,
@@ -47,6 +49,7 @@ pub struct Vote {
     pub group: u64,
 }
 
+/// The machine: its entries are votes, and its root is the base.
 pub struct Counting<P> {
     port: PhantomData<P>,
 }
@@ -79,8 +82,8 @@ pub struct Round {
     pub done: TxNo,
 }
 
-// Takes the queue's side, looks, lowers the mark to the next number, draws, looks again, counts the vote on
-// the port, reads the front, raises the mark past the vote, reads the front again, and gives the side back.
+/// Takes the queue's side, looks, lowers the mark to the next number, draws, looks again, counts the vote on
+/// the port, reads the front, raises the mark past the vote, reads the front again, and gives the side back.
 pub fn cast<P: Port, R: Wait>(
     rt: &R,
     desk: &Desk<Counting<P>>,
@@ -122,9 +125,10 @@ pub fn cast<P: Port, R: Wait>(
     }
 }
 
+/// A desk with its chairs.
 pub type Opened = (Desk<Counting<Word>>, Vec<Chair<Counting<Word>>>);
 
-// A desk with the given number of sides, whose ports stand at 0. Its root is the base.
+/// A desk with the given number of sides, whose ports stand at 0. Its root is the base.
 pub fn opened(alloc: Global, sides: u32, base: u64, chairs: u32) -> Result<Opened, OutOfMemory>
     requires { (0 < chairs) × (chairs ≤ 16) × (base ≤ 2 ^ 62) }
     ensures many { IfOk result (λ d. 4294967296 ≤ allotment (chairs_of d.0)) }
