@@ -1,5 +1,5 @@
 -- Words of digits: the numbers and bytes that they write.
-use Rattle.std.proofs.Common.{◌≡◌, ℕ, Bool, true, false, cond, Option, Some, None, ◌+◌, ◌*◌, ◌/◌, ◌%◌, ◌^◌, ◌<◌, ◌≤◌, List, [], ◌∷◌, get_or, sym, ◌∙◌, ap, refl, arith}
+use Rattle.std.proofs.Common.{◌≡◌, ℕ, Bool, true, false, cond, Option, Some, None, ◌+◌, ◌*◌, ◌/◌, ◌%◌, ◌^◌, ◌<◌, ◌≤◌, List, [], ◌∷◌, get_or, sym, ◌∙◌, ap, subst, refl, arith}
 use Rattle.std.specs.Prelude.{◌&&◌, nat_lt, bytes_eq, IfSome}
 use Rattle.std.specs.Fmt.{decimal}
 use Rattle.std.specs.Str.Parse.{digits_value}
@@ -7,7 +7,7 @@ use Rattle.std.proofs.lemmas.Bool.{ltb-true, lt-ltb, and_from, and_parts}
 use Rattle.std.proofs.lemmas.Fmt.{decimal_is_IsNumeral}
 use Rattle.std.proofs.lemmas.Slice.Eq.{bytes_eq-Decides}
 use Rattle.mq_block_text.specs.Text.{hex_digit, hex_text}
-use Rattle.mq_audit.specs.Words.{number_in, digit_in, byte_of, byte_in}
+use Rattle.mq_block_text.specs.Words.{number_in, digit_in, byte_of, byte_in}
 
 -- ---- numbers
 
@@ -38,6 +38,18 @@ number_is text None found only =
     ((bytes_eq-Decides text (decimal (digits_value 10 text))).0 (and_parts (bytes_eq text (decimal (digits_value 10 text))) (nat_lt (digits_value 10 text) (2 ^ 64)) yes).0))) where
       none_some : (n : ℕ) → ◌≡◌ {A = Option ℕ} None (Some n) → ⊥
       none_some n e = cc
+
+-- a word that is read as a number is its own digits
+pub number_spelled : (word : List ℕ) (n : ℕ) → number_in word ≡ Some n → (n < 2 ^ 64) × (word ≡ decimal n)
+number_spelled word n e = step (bytes_eq word (decimal (digits_value 10 word)) && nat_lt (digits_value 10 word) (2 ^ 64)) refl e
+  where
+    step : (t : Bool) → (bytes_eq word (decimal (digits_value 10 word)) && nat_lt (digits_value 10 word) (2 ^ 64)) ≡ t → cond t (Some (digits_value 10 word)) None ≡ Some n → (n < 2 ^ 64) × (word ≡ decimal n)
+    step true is p =
+        let same : digits_value 10 word ≡ n = cc in
+        let small : digits_value 10 word < 2 ^ 64 = ltb-true (digits_value 10 word) (2 ^ 64) (and_parts (bytes_eq word (decimal (digits_value 10 word))) (nat_lt (digits_value 10 word) (2 ^ 64)) is).1 in
+        let text : word ≡ decimal (digits_value 10 word) = (bytes_eq-Decides word (decimal (digits_value 10 word))).0 (and_parts (bytes_eq word (decimal (digits_value 10 word))) (nat_lt (digits_value 10 word) (2 ^ 64)) is).0 in
+        (subst (λ (m : ℕ). m < 2 ^ 64) same small, text ∙ ap decimal same)
+    step false is p = absurd (cc)
 
 -- ---- hexadecimal digits
 
