@@ -13,18 +13,6 @@ use Rattle.mq_replica.specs.Updates.{AreBelow, AreWritesFit, AreWritesRising, up
 use Rattle.mq_command_replicate.specs.Updates.{IsReplicaGeometry}
 use Rattle.mq_command_replicate.proofs.HeldLines.{last_is}
 
--- ---- what a loop over the blocks has so far
-
-pub writes_none : (f : Fill) (b : ℕ) (so_far all : Writes) → b < 256 → f b ≡ None → all ≡ so_far ++ writes_from f b (named - b) → all ≡ so_far ++ writes_from f (b + 1) (named - (b + 1))
-writes_none f b so_far all less none is =
-    is ∙ ap (λ (ws : Writes). so_far ++ ws) (writes_at f named b (omega (arith, named_is)) ∙ ap (λ (o : Option ℕ). with_write b o (writes_from f (b + 1) (named - (b + 1)))) none)
-
-pub writes_some : (f : Fill) (b v : ℕ) (so_far all : Writes) → b < 256 → f b ≡ Some v → all ≡ so_far ++ writes_from f b (named - b)
-    → all ≡ (so_far ++ (b, filled v) ∷ []) ++ writes_from f (b + 1) (named - (b + 1))
-writes_some f b v so_far all less some is =
-    is ∙ ap (λ (ws : Writes). so_far ++ ws) (writes_at f named b (omega (arith, named_is)) ∙ ap (λ (o : Option ℕ). with_write b o (writes_from f (b + 1) (named - (b + 1)))) some)
-    ∙ sym (append_assoc so_far ((b, filled v) ∷ []) (writes_from f (b + 1) (named - (b + 1))))
-
 -- ---- they rise
 
 rising_one : (low high b : ℕ) (o : Option ℕ) (ws : Writes) → low ≤ b → b < high → ((m : ℕ) → m ≤ b + 1 → AreRising m high (blocks_of ws)) → AreRising low high (blocks_of (with_write b o ws))

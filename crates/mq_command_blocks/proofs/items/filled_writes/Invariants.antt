@@ -1,6 +1,6 @@
 use Rattle.std.proofs.Common.{◌≡◌, ◌-◌, ◌++◌, get_or, None}
 use Rattle.mq_block_trace.specs.Lines.{writes_from, named}
-use Rattle.mq_loose_run.proofs.items.filled_writes.Given as goal
+use Rattle.mq_command_blocks.proofs.items.filled_writes.Given as goal
 
 abbrev pub invariant-loop-b : goal.invariant-loop-b
 invariant-loop-b l =

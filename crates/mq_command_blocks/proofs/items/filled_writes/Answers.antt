@@ -4,9 +4,9 @@ use Rattle.mq_blocks.specs.Blocks.{filled}
 use Rattle.mq_blocks.specs.Machine.{Writes}
 use Rattle.mq_block_trace.specs.Lines.{writes_from, named}
 use Rattle.mq_block_trace.proofs.LinesFills.{Fill, writes_last}
-use Rattle.mq_loose_run.proofs.ItemLists.{writes_none, writes_some}
-use Rattle.mq_loose_run.proofs.items.filled_writes.Goals as goal
-use Rattle.mq_loose_run.proofs.items.filled_writes.Goals.{in-None, in-Some+in_ok-filled-in-Some+in_ok-push-in-Some}
+use Rattle.mq_command_blocks.proofs.ItemsWrites.{writes_none, writes_some}
+use Rattle.mq_command_blocks.proofs.items.filled_writes.Goals as goal
+use Rattle.mq_command_blocks.proofs.items.filled_writes.Goals.{in-None, in-Some+in_ok-filled-in-Some+in_ok-push-in-Some}
 
 pub loop-b-preserved : goal.loop-b-preserved
 loop-b-preserved c =
