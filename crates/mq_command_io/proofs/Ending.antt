@@ -98,13 +98,13 @@ low_failed result (inr (inr three)) (inr six) = omega (arith, three, six)
 -- ---- what was not loaded, or not saved, doesn't end with 0
 
 pub not-loaded-zero : (name : List ℕ) (old new : FilesState) (status : ℕ) (text : List ℕ) → IsNotLoaded name old new status text → status ≡ 0 → ⊥
-not-loaded-zero name old new _ _ (load_failed same rose tried) zero = omega (arith, zero)
-not-loaded-zero name old new _ _ (load_too_long same over faults takes tried) zero = omega (arith, zero)
-not-loaded-zero name old new _ _ (load_memory same faults tried) zero = omega (arith, zero)
+not-loaded-zero name old new _ _ (load_failed same rose tried) none = omega (arith, none)
+not-loaded-zero name old new _ _ (load_too_long same over faults takes tried) none = omega (arith, none)
+not-loaded-zero name old new _ _ (load_memory same faults tried) none = omega (arith, none)
 
 pub not-saved-zero : (name : List ℕ) (old new : FilesState) (status : ℕ) (text : List ℕ) → IsNotSaved name old new status text → status ≡ 0 → ⊥
-not-saved-zero name old new _ _ (save_failed other rose taken tried) zero = omega (arith, zero)
-not-saved-zero name old new _ _ (save_memory same faults taken tried) zero = omega (arith, zero)
+not-saved-zero name old new _ _ (save_failed other rose taken tried) none = omega (arith, none)
+not-saved-zero name old new _ _ (save_memory same faults taken tried) none = omega (arith, none)
 
 -- ---- names
 
