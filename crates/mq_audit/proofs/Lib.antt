@@ -6,4 +6,3 @@ pub mod SpelledBack
 pub mod Telling
 pub mod TracesOnce
 pub mod TracesReading
-pub mod WordsDigits

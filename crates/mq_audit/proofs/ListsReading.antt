@@ -4,11 +4,12 @@ use Rattle.std.specs.Option.{option_map}
 use Rattle.std.specs.Prelude.{bytes_eq}
 use Rattle.std.proofs.lemmas.Bool.{le-leb, lt-leb, ltb-true}
 use Rattle.std.proofs.lemmas.Option.{same_Some}
+use Rattle.mq_block_text.specs.Words.{byte_in, number_in}
 use Rattle.mq_blocks.specs.Geometry.{homes_of}
 use Rattle.mq_blocks.specs.declared.geometry.Geometry.{Geometry}
 use Rattle.mq_audit.specs.Answers.{and_then}
 use Rattle.mq_audit.specs.Lists.{rising_in, content_in, sets_in, cut_by}
-use Rattle.mq_audit.specs.Words.{below, block_in, both, byte_in, ended_by, number_in, set_in}
+use Rattle.mq_audit.specs.Words.{below, block_in, both, ended_by, set_in}
 
 -- these stand before those that are read of the rest
 abbrev pub before : {A : Type 0} → List A → Option (List A) → Option (List A)

@@ -10,6 +10,8 @@ use Rattle.std.proofs.Math.ListN.{get_or-append}
 use Rattle.mq_block_text.specs.Text.{hex_text, set_text}
 use Rattle.mq_block_text.proofs.TextItems.{cut}
 use Rattle.mq_block_text.proofs.TextNumbers.{own}
+use Rattle.mq_block_text.specs.Words.{byte_in, number_in}
+use Rattle.mq_block_text.proofs.WordsDigits.{byte_written, number_again}
 use Rattle.mq_blocks.specs.Descriptor.{AreRising}
 use Rattle.mq_blocks.specs.Geometry.{homes_of, queues_of}
 use Rattle.mq_blocks.specs.declared.geometry.Geometry.{Geometry}
@@ -21,8 +23,7 @@ use Rattle.mq_audit.specs.Answers.{and_then}
 use Rattle.mq_audit.specs.Events.{a_queue_and_a_number, event_in_words, lists_of, tx_in}
 use Rattle.mq_audit.specs.Lists.{blocks_in, content_in, cut_by, rising_in, sets_in}
 use Rattle.mq_audit.specs.Spelled.{AreSets, IsDraw, IsEvent, IsFilled, event_words, list_words, set_word}
-use Rattle.mq_audit.specs.Words.{below, block_in, both, byte_in, ended_by, number_in, queue_in, set_in}
-use Rattle.mq_audit.proofs.WordsDigits.{byte_written, number_again}
+use Rattle.mq_audit.specs.Words.{below, block_in, both, ended_by, queue_in, set_in}
 
 -- ---- words
 

@@ -9,6 +9,9 @@ use Rattle.std.proofs.lemmas.List.{take-append-drop}
 use Rattle.std.proofs.lemmas.Option.{same_Some}
 use Rattle.std.proofs.lemmas.Slice.Eq.{bytes_eq-Decides}
 use Rattle.mq_block_text.specs.Text.{hex_text, set_text}
+use Rattle.mq_block_text.specs.Words.{byte_in, number_in, one_of, two_of}
+use Rattle.mq_block_text.proofs.WordsDigits.{byte_read, number_spelled}
+use Rattle.mq_block_text.proofs.WordsLines.{word_found}
 use Rattle.mq_blocks.specs.Descriptor.{AreRising}
 use Rattle.mq_blocks.specs.Geometry.{homes_of, queues_of}
 use Rattle.mq_blocks.specs.declared.geometry.Geometry.{Geometry}
@@ -20,10 +23,9 @@ use Rattle.mq_audit.specs.Events.{a_queue, a_block, a_number, a_queue_and_a_numb
 use Rattle.mq_audit.specs.Lists.{blocks_in, content_in, cut_by, headed, rising_in, sets_in}
 use Rattle.mq_audit.specs.Spelled.{AreSets, IsDraw, IsEvent, IsFilled, event_words, list_words, set_word}
 use Rattle.mq_audit.specs.Verbs.{verb_in, verb_text, verbs}
-use Rattle.mq_audit.specs.Words.{below, block_in, both, byte_in, ended_by, number_in, one_of, queue_in, set_in, two_of}
+use Rattle.mq_audit.specs.Words.{below, block_in, both, ended_by, queue_in, set_in}
 use Rattle.mq_audit.specs.declared.verb.Verb.{Verb}
 use Rattle.mq_audit.specs.declared.verb.Verb.TheVariants.{Draw as by_draw, Stage as by_stage, Flush as by_flush, Ring as by_ring, Complete as by_complete, Failed as by_failed, StoreHead as by_store_head, FlushHead as by_flush_head, Clear as by_clear, Ack as by_ack, Home as by_home, HomeDone as by_home_done, StoreBase as by_store_base, FlushBase as by_flush_base}
-use Rattle.mq_audit.proofs.WordsDigits.{byte_read}
 
 -- what an option that gives something was
 abbrev From : {A B : Type 0} → Option A → (A → Option B) → B → Type 0
@@ -40,14 +42,6 @@ mapped (Some x) f y e = (x, refl, same_Some (f x) y e)
 tested : {A : Type 0} (t : Bool) (o : Option A) (y : A) → cond t o None ≡ Some y → (t ≡ true) × (o ≡ Some y)
 tested true o y e = (refl, e)
 tested false o y e = absurd (cc)
-
-number_spelled : (word : List ℕ) (n : ℕ) → number_in word ≡ Some n → (n < 2 ^ 64) × (word ≡ decimal n)
-number_spelled word n e =
-    let value = digits_value 10 word in
-    let t = tested (bytes_eq word (decimal value) && nat_lt value (2 ^ 64)) (Some value) n e in
-    let parts = and_parts (bytes_eq word (decimal value)) (nat_lt value (2 ^ 64)) t.0 in
-    let same = same_Some value n t.1 in
-    (subst (λ (m : ℕ). m < 2 ^ 64) same (ltb-true value (2 ^ 64) parts.1), (bytes_eq-Decides word (decimal value)).0 parts.0 ∙ ap decimal same)
 
 below_spelled : (end : ℕ) (o : Option ℕ) (n : ℕ) → below end o ≡ Some n → (n < end) × (o ≡ Some n)
 below_spelled end None n e = absurd (cc)
@@ -228,14 +222,6 @@ draw_spelled g number (w ∷ words) t e =
 
 -- ---- events
 
-verb_spelled : (word : List ℕ) (all : List Verb) (v : Verb) → find (λ x. bytes_eq word (verb_text x)) all ≡ Some v → word ≡ verb_text v
-verb_spelled word [] v e = absurd (cc)
-verb_spelled word (x ∷ all) v e = step (λ q. verb_spelled word all v q) (bytes_eq word (verb_text x)) refl e
-  where
-    step : (find (λ y. bytes_eq word (verb_text y)) all ≡ Some v → word ≡ verb_text v) → (t : Bool) → bytes_eq word (verb_text x) ≡ t → cond t (Some x) (find (λ y. bytes_eq word (verb_text y)) all) ≡ Some v → word ≡ verb_text v
-    step again true is p = (bytes_eq-Decides word (verb_text x)).0 is ∙ ap verb_text (same_Some x v p)
-    step again false is p = again p
-
 -- the words after the verb are the event's
 abbrev SpelledAs : Geometry → ℕ → List (List ℕ) → Event → Type 0
 SpelledAs g number words e = IsEvent g number e × (words ≡ event_words e)
@@ -289,7 +275,7 @@ args_spelled g number by_flush_base words e is = alone g number words e is
 
 verb_event_spelled : (g : Geometry) (number : ℕ) (w : List ℕ) (words : List (List ℕ)) (o : Option Verb) (e : Event) → verb_in w ≡ o → verb_event g number o words ≡ Some e → SpelledAs g number (w ∷ words) e
 verb_event_spelled g number w words None e is p = absurd (cc)
-verb_event_spelled g number w words (Some v) e is p = subst (λ (x : List ℕ). SpelledAs g number (x ∷ words) e) (sym (verb_spelled w verbs v is)) (args_spelled g number v words e p)
+verb_event_spelled g number w words (Some v) e is p = subst (λ (x : List ℕ). SpelledAs g number (x ∷ words) e) (sym (word_found verb_text w verbs v is)) (args_spelled g number v words e p)
 
 pub event_spelled : (g : Geometry) (number : ℕ) (words : List (List ℕ)) (e : Event) → event_in_words g number words ≡ Some e → IsEvent g number e × (words ≡ event_words e)
 event_spelled g number [] e is = absurd (cc)

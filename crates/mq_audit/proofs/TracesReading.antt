@@ -3,6 +3,7 @@ use Rattle.std.proofs.Common.{◌≡◌, ℕ, suc, Bool, true, false, cond, Opti
 use Rattle.std.specs.Option.{option_map}
 use Rattle.std.proofs.lemmas.List.{length-set}
 use Rattle.std.proofs.lemmas.Option.{same_Some}
+use Rattle.mq_block_text.specs.Words.{number_in}
 use Rattle.mq_blocks.specs.Geometry.{homes_of}
 use Rattle.std.specs.Prelude.{Result, Ok, Err}
 use Rattle.mq_blocks.specs.declared.geometry.Geometry.{Geometry}
@@ -15,7 +16,7 @@ use Rattle.mq_audit.specs.declared.refusal.Misread.{Misread}
 use Rattle.mq_audit.specs.declared.refusal.Misread.TheVariants.{Form, OutOfMemory as LineMemory}
 use Rattle.mq_audit.specs.declared.refusal.TraceRefusal.{TraceRefusal}
 use Rattle.mq_audit.specs.declared.refusal.TraceRefusal.TheVariants.{Line, OutOfMemory as NoMemory}
-use Rattle.mq_audit.specs.Words.{number_in, set_in}
+use Rattle.mq_audit.specs.Words.{set_in}
 use Rattle.mq_audit.proofs.ListsReading.{before, set_low}
 
 abbrev pub onto_all : List Event → Result (List Event) ℕ → Result (List Event) ℕ

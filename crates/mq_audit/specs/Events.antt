@@ -1,6 +1,7 @@
 -- The lines of events.
 use Rattle.std.specs.Prelude.{ℕ, Option, Some, None, List, [], ◌∷◌, codes}
 use Rattle.std.specs.Option.{option_map}
+use Rattle.mq_block_text.specs.Words.{words_of, one_of, two_of, number_in}
 use Rattle.mq_blocks.specs.declared.geometry.Geometry.{Geometry}
 use Rattle.mq_core.specs.declared.event.Event.{Event}
 use Rattle.mq_core.specs.declared.event.Event.TheVariants.{Draw as make_draw, Stage as make_stage, Flush as make_flush, Ring as make_ring, Complete as make_complete, FailCommand as make_failed, StoreHead as make_store_head, FlushHead as make_flush_head, Clear as make_clear, Acknowledge as make_ack, WriteHome as make_home, HomeDone as make_home_done, StoreBase as make_store_base, FlushBase as make_flush_base}
@@ -8,7 +9,7 @@ use Rattle.mq_ledger.specs.declared.tx.Tx.{Tx}
 use Rattle.mq_audit.specs.Answers.{and_then}
 use Rattle.mq_audit.specs.Lists.{sets_in, blocks_in, headed, cut_by}
 use Rattle.mq_audit.specs.Verbs.{verb_in}
-use Rattle.mq_audit.specs.Words.{words_of, one_of, two_of, number_in, queue_in, block_in}
+use Rattle.mq_audit.specs.Words.{queue_in, block_in}
 use Rattle.mq_audit.specs.declared.verb.Verb.{Verb}
 use Rattle.mq_audit.specs.declared.verb.Verb.TheVariants.{Draw, Stage, Flush, Ring, Complete, Failed, StoreHead, FlushHead, Clear, Ack, Home, HomeDone, StoreBase, FlushBase}
 

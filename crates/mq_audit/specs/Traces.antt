@@ -2,6 +2,7 @@
 use Rattle.std.specs.Prelude.{◌≡◌, ◌<◌, ◌≤◌, ◌⊎◌, ℕ, ◌+◌, ◌^◌, ◌==◌, Option, Some, None, Result, Ok, Err, List, [], ◌∷◌, length, codes, replicate, slice_set}
 use Rattle.std.specs.List.{slice_split}
 use Rattle.std.specs.Option.{option_map}
+use Rattle.mq_block_text.specs.Words.{number_in, words_of}
 use Rattle.mq_blocks.specs.Geometry.{homes_of}
 use Rattle.mq_blocks.specs.declared.geometry.Geometry.{Geometry}
 use Rattle.mq_core.specs.Start.{start_state}
@@ -11,7 +12,6 @@ use Rattle.mq_ledger.specs.State.{State}
 use Rattle.mq_audit.specs.Answers.{and_then}
 use Rattle.mq_audit.specs.Events.{event_in}
 use Rattle.mq_audit.specs.Lists.{sets_in, headed}
-use Rattle.mq_audit.specs.Words.{number_in, words_of}
 use Rattle.mq_audit.specs.declared.refusal.TraceRefusal.{TraceRefusal}
 use Rattle.mq_audit.specs.declared.refusal.TraceRefusal.TheVariants.{Line, OutOfMemory}
 

@@ -1,29 +1,8 @@
--- The words of lines: numbers, queues, blocks, and blocks with their bytes.
-use Rattle.std.specs.Prelude.{ℕ, ◌+◌, ◌-◌, ◌*◌, ◌^◌, ◌&&◌, ◌==◌, nat_lt, nat_le, if◌then◌else◌, Option, Some, None, List, [], ◌∷◌, length, drop, take, bytes_eq, decimal}
-use Rattle.std.specs.List.{slice_split}
-use Rattle.std.specs.Str.Parse.{digits_value}
+-- The words of lines: queues, blocks, and blocks with their bytes.
+use Rattle.std.specs.Prelude.{ℕ, ◌-◌, ◌==◌, nat_lt, if◌then◌else◌, Option, Some, None, List, [], ◌∷◌, length, drop, take}
+use Rattle.mq_block_text.specs.Words.{byte_in, number_in}
 use Rattle.mq_blocks.specs.Geometry.{queues_of, homes_of}
 use Rattle.mq_blocks.specs.declared.geometry.Geometry.{Geometry}
-
--- the words between the spaces
-abbrev pub words_of : List ℕ → List (List ℕ)
-words_of line = slice_split (λ b. b == 32) line
-
-abbrev pub one_of : List (List ℕ) → Option (List ℕ)
-one_of (a ∷ []) = Some a
-one_of words = None
-
-abbrev pub two_of : List (List ℕ) → Option (List ℕ × List ℕ)
-two_of (a ∷ b ∷ []) = Some (a, b)
-two_of words = None
-
--- ---- numbers
-
--- below 2^64, and written by its own digits: no zero stands before others
-abbrev pub number_in : List ℕ → Option ℕ
-number_in text =
-    if bytes_eq text (decimal (digits_value 10 text)) && nat_lt (digits_value 10 text) (2 ^ 64)
-    then Some (digits_value 10 text) else None
 
 abbrev pub below : ℕ → Option ℕ → Option ℕ
 below end None = None
@@ -36,23 +15,6 @@ queue_in g word = below (queues_of g) (number_in word)
 -- a home block of the geometry
 abbrev pub block_in : Geometry → List ℕ → Option ℕ
 block_in g word = below (homes_of g) (number_in word)
-
--- ---- bytes
-
--- a digit from 0 to 9 or from a to f
-abbrev pub digit_in : ℕ → Option ℕ
-digit_in d =
-    if nat_le 48 d && nat_le d 57 then Some (d - 48) else if nat_le 97 d && nat_le d 102
-    then Some (d - 87) else None
-
-abbrev pub byte_of : Option ℕ → Option ℕ → Option ℕ
-byte_of None low = None
-byte_of (Some high) None = None
-byte_of (Some high) (Some low) = Some (high * 16 + low)
-
--- the byte of two digits
-abbrev pub byte_in : (high low : ℕ) → Option ℕ
-byte_in high low = byte_of (digit_in high) (digit_in low)
 
 -- ---- a block and the byte that all of it gets, as `5=ab`
 

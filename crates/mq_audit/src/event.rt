@@ -7,8 +7,8 @@ ghost use Rattle.mq_audit.specs.Events.{a_queue, a_block, a_number, a_queue_and_
 use crate::lists::{after_word, cut_words, read_blocks, read_sets};
 use crate::refusal::Misread;
 use crate::verb::{Verb, read_verb};
-use crate::words::{block_of, number_of, one_word, queue_of, two_words};
-use mq_block_text::cut_at;
+use crate::words::{block_of, one_word, queue_of, two_words};
+use mq_block_text::{cut_at, number_of};
 use mq_blocks::{BlockNo, Geometry, QueueNo, TxNo};
 use mq_core::{Event, Tx};
 use std::alloc::Global;

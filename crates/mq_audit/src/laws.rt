@@ -1,10 +1,10 @@
 // What lines spell.
 ghost use Rattle.std.specs.Prelude.{◌≡◌, ℕ, List, Some};
+ghost use Rattle.mq_block_text.specs.Words.{words_of};
 ghost use Rattle.mq_blocks.specs.declared.geometry.Geometry.{Geometry as Shape};
 ghost use Rattle.mq_core.specs.declared.event.Event.{Event};
 ghost use Rattle.mq_audit.specs.Events.{event_in};
 ghost use Rattle.mq_audit.specs.Spelled.{IsEvent, event_words};
-ghost use Rattle.mq_audit.specs.Words.{words_of};
 
 /// A line whose words are those of an event is read as this event, and no other line is. The event's
 /// queue and blocks are the geometry's, and a draw has the next number.

@@ -8,8 +8,7 @@ ghost use Rattle.mq_audit.specs.declared.refusal.Misread.TheVariants.{Form as fo
 use crate::event::read_event;
 use crate::lists::{after_word, read_sets};
 use crate::refusal::{Misread, TraceRefusal};
-use crate::words::number_of;
-use mq_block_text::cut_at;
+use mq_block_text::{cut_at, number_of};
 use mq_blocks::{Geometry, OutOfMemory, TxNo};
 use mq_core::{Content, Event, Writes};
 use std::alloc::{AllocError, Global};

@@ -1,24 +1,11 @@
-// The words of lines: numbers, queues, blocks, and blocks with their bytes.
+// The words of lines: queues, blocks, and blocks with their bytes.
 ghost use Rattle.std.specs.Prelude.{◌≡◌, map};
 ghost use Rattle.std.specs.Option.{option_map};
-ghost use Rattle.mq_audit.specs.Words.{number_in, byte_in, queue_in, block_in, set_in, one_of, two_of};
+ghost use Rattle.mq_block_text.specs.Words.{one_of, two_of};
+ghost use Rattle.mq_audit.specs.Words.{queue_in, block_in, set_in};
 
-use mq_block_text::{read_hex, read_number};
+use mq_block_text::{byte_of, number_of};
 use mq_blocks::{BlockNo, Geometry, QueueNo};
-
-/// The number of a word.
-pub fn number_of(word: &[u8]) -> Option<u64>
-    ensures { result ≡ number_in word.now }
-{
-    read_number(word)
-}
-
-/// The byte of two digits.
-fn byte_of(high: u8, low: u8) -> Option<u8>
-    ensures { result ≡ byte_in high low }
-{
-    read_hex(high, low)
-}
 
 /// The queue of a word, which the geometry has.
 pub fn queue_of(geometry: Geometry, word: &[u8]) -> Option<QueueNo>

@@ -5,3 +5,5 @@ pub mod TextLines
 pub mod TextNumbers
 pub mod TextParts
 pub mod TextWhole
+pub mod WordsDigits
+pub mod WordsLines

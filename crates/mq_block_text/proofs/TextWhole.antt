@@ -147,7 +147,7 @@ text_of_lines bytes body [] b h e = absurd (split_some (λ b. eqb b 10) body e)
 text_of_lines bytes body (l ∷ lines) b h e = joined bytes body l lines b h (sym (join_with_byte-slice_split 10 body) ∙ ap (join_with_byte 10) e)
 
 -- a part of the body is one of the text
-body_part : (bytes body front part : List ℕ) → IsBody bytes body → IsPart 10 body front part → IsPart 10 bytes front part
+pub body_part : (bytes body front part : List ℕ) → IsBody bytes body → IsPart 10 body front part → IsPart 10 bytes front part
 body_part bytes body front part (inr b) is = record {
   rest = is.rest;
   stands = elim is.stands [ inl e ↦ inl (b.0 ∙ e) | inr e ↦ inr (b.0 ∙ e) ];
@@ -171,16 +171,19 @@ body_part bytes body front part (inl b) is = elim is.stands [
 longer : (front part : List ℕ) (rest : List ℕ) → length front ≤ length (front ++ (part ++ rest))
 longer front part rest = omega (arith, length-append front (part ++ rest))
 
--- a part of the body is there
-body_there : (bytes body : List ℕ) (before : List (List BlockItem)) (part : List ℕ) → IsBody bytes body → 0 < length bytes → IsPart 10 body (text_of before) part → bytes ≢ text_of before
-body_there bytes body before part (inl b) some is same =
+-- A part of the body is there: what stands before it is the text of some lines.
+pub body_there :
+    {L : Type 0} (text_of : List L → List ℕ) (line_text : L → List ℕ) → text_of [] ≡ []
+    → ((l : L) (ls : List L) → text_of (l ∷ ls) ≡ join_with_byte 10 (map line_text (l ∷ ls)) ++ 10 ∷ [])
+    → (bytes body : List ℕ) (before : List L) (part : List ℕ) → IsBody bytes body → 0 < length bytes → IsPart 10 body (text_of before) part → bytes ≢ text_of before
+body_there text_of line_text none join bytes body before part (inl b) some is same =
     let whole : length (text_of before) ≡ length body + 1 = ap length (sym same ∙ b) ∙ length-append body (10 ∷ []) in
     elim is.stands [
       | inl e ↦ (let long : length body ≡ length (text_of before) + length part = ap length e ∙ length-append (text_of before) part in omega arith)
       | inr e ↦ (let long : length body ≡ length (text_of before) + length (part ++ 10 ∷ is.rest) = ap length e ∙ length-append (text_of before) (part ++ 10 ∷ is.rest) in omega arith)
     ]
-body_there bytes body [] part (inr b) some is same = let none : length bytes ≡ 0 = ap length same in omega arith
-body_there bytes body (l ∷ before) part (inr b) some is same = b.1 (join_with_byte 10 (map line_text (l ∷ before))) (same ∙ join_lines l before)
+body_there text_of line_text none join bytes body [] part (inr b) some is same = let short : length bytes ≡ 0 = ap length (same ∙ none) in omega arith
+body_there text_of line_text none join bytes body (l ∷ before) part (inr b) some is same = b.1 (join_with_byte 10 (map line_text (l ∷ before))) (same ∙ join l before)
 
 -- what is refused of the lines of the body is refused of the text
 pub refused_of_lines :
@@ -194,7 +197,7 @@ refused_of_lines bytes body number cause b some bad =
       text = bad.text;
       good = bad.good;
       part = body_part bytes body (text_of bad.before) bad.text b part;
-      there = body_there bytes body bad.before bad.text b some part;
+      there = body_there text_of line_text refl join_lines bytes body bad.before bad.text b some part;
       counted = bad.counted;
       refused = bad.refused;
     }

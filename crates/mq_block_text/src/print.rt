@@ -11,7 +11,8 @@ fn prefix_line(alloc: Global, prefix: u64) -> Result<String, AllocError>
     format!(in alloc; "prefix {prefix}\n")
 }
 
-fn block_line(alloc: Global, block: u32, byte: u8) -> Result<String, AllocError>
+/// The line of a block, and the byte that all of it has.
+pub fn block_line(alloc: Global, block: u32, byte: u8) -> Result<String, AllocError>
     ensures { IfOk result (λ s. string_bytes s ≡ number_text block ++ 32 ∷ hex_text byte ++ 10 ∷ []) }
 {
     format!(in alloc; "{block} {byte:02x}\n")

@@ -1,12 +1,12 @@
 // A whole block text.
-ghost use Rattle.std.specs.Prelude.{◌≡◌, ◌⊎◌, ◌++◌, ◌∷◌, [], ℕ, List, IfErr, IfOk, MatchResult, map};
+ghost use Rattle.std.specs.Prelude.{◌≡◌, ℕ, List, IfErr, IfOk, MatchResult, map};
 ghost use Rattle.mq_block_text.specs.declared.item.BlockItem.{BlockItem};
 ghost use Rattle.mq_block_text.specs.declared.refusal.BlockTextCause.{BlockTextCause};
 ghost use Rattle.mq_block_text.specs.Refusals.{IsRefusal, IsRefused, RefusesLines, RefusesText};
 ghost use Rattle.mq_block_text.specs.Text.{line_text, IsTextOf, IsGoodText};
 
 use crate::line::{BlockLine, read_line};
-use crate::parts::cut_at;
+use crate::parts::{cut_at, without_last_line_feed};
 use crate::refusal::{BlockTextCause, BlockTextRefusal};
 use std::alloc::Global;
 use std::marker::Model;
@@ -26,17 +26,6 @@ impl Model for BlockText {
 
 /// The number of blocks of the smallest journal area, which a whole text must fit.
 const PLACES: usize = 1024;
-
-/// The text without the line feed at its end, if it has one.
-fn without_last_line_feed(text: &[u8]) -> &[u8]
-    ensures { (text.now ≡ result.now ++ 10 ∷ [])
-        ⊎ ((text.now ≡ result.now) × ((front : List ℕ) → text.now ≡ front ++ 10 ∷ [] → ⊥)) }
-{
-    match text {
-        [front @ .., b'\n'] => front,
-        _ => text,
-    }
-}
 
 /// The lines of these texts, which fit the smallest journal area.
 fn read_lines(alloc: Global, texts: &[&[u8]]) -> Result<Vec<BlockLine>, BlockTextRefusal>

@@ -3,14 +3,14 @@ use Rattle.std.proofs.Common.{◌≡◌, ◌<◌, ℕ, ◌+◌, ◌^◌, List, [
 use Rattle.std.specs.Prelude.{codes, decimal, Result, Ok}
 use Rattle.std.specs.List.{AllByRecursion}
 use Rattle.std.specs.Option.{option_map}
+use Rattle.mq_block_text.specs.Words.{words_of}
+use Rattle.mq_block_text.proofs.WordsDigits.{number_again}
 use Rattle.mq_audit.specs.Answers.{and_then}
 use Rattle.mq_audit.specs.Events.{event_in}
 use Rattle.mq_audit.specs.Lists.{headed, sets_in}
 use Rattle.mq_audit.specs.Spelled.{IsEvent, event_words}
 use Rattle.mq_audit.specs.Traces.{IsHead, IsTrace, Trace, before_last, ended, last_after, last_of, lines_of, numbers_in, onto, placed, rest_in, start_in, started, stepped, steps_in, tail_of, with_events}
-use Rattle.mq_audit.specs.Words.{words_of}
 use Rattle.mq_audit.proofs.TracesReading.{before_last_is, last_of_is}
-use Rattle.mq_audit.proofs.WordsDigits.{number_again}
 use Rattle.mq_blocks.specs.declared.geometry.Geometry.{Geometry}
 use Rattle.mq_core.specs.declared.event.Event.{Event}
 use Rattle.mq_core.specs.declared.event.Event.TheVariants.{Draw, Stage, Flush, Ring, Complete, FailCommand, StoreHead, FlushHead, Clear, Acknowledge, WriteHome, HomeDone, StoreBase, FlushBase}

@@ -3,7 +3,7 @@ use Rattle.std.proofs.Common.{◌≡◌, ◌≢◌, ◌<◌, ◌≤◌, ◌⊎�
 use Rattle.std.specs.Prelude.{MatchResult, Result, Ok, Err, option_and_then, option_map}
 use Rattle.std.proofs.lemmas.Bool.{lt-ltb}
 use Rattle.clap.specs.Words.{Kinds, Row, Text, fault_of, matches_of}
-use Rattle.mq_script.specs.Words.{number_in}
+use Rattle.mq_block_text.specs.Words.{number_in}
 use Rattle.mq_cli.specs.Asked.{Asked, Words, asked_after, asked_by, asked_of, below, found_in, is_empty, number_within, some_words}
 use Rattle.mq_cli.specs.Syntax.{app_for, verb_of}
 use Rattle.mq_cli.specs.declared.refusal.WordsRefusal.{WordsRefusal}

@@ -1,8 +1,9 @@
 -- What words ask: exactly one thing, or nothing.
-use Rattle.std.specs.Prelude.{ℕ, ◌<◌, ◌≤◌, ◌+◌, ◌^◌, IfSome, ◌==◌, ◌&&◌, Bool, true, false, List, [], ◌∷◌, length, map, take, drop, Option, Some, None, option_and_then, option_map, codes, bytes_eq, nat_lt, nat_le, if◌then◌else◌}
+use Rattle.std.specs.Prelude.{ℕ, ◌<◌, ◌≤◌, ◌+◌, ◌^◌, IfSome, ◌==◌, Bool, true, false, List, [], ◌∷◌, length, map, take, drop, Option, Some, None, option_and_then, option_map, codes, bytes_eq, nat_lt, nat_le, if◌then◌else◌, ◌&&◌}
 use Rattle.std.specs.List.{list_all, position}
 use Rattle.clap.specs.Words.{Row, Text, all_of, fault_of, first_of, matches_of}
-use Rattle.mq_script.specs.Words.{number_in, path_in}
+use Rattle.mq_block_text.specs.Words.{is_visible, number_in}
+use Rattle.mq_script.specs.Words.{path_in}
 use Rattle.mq_tree.specs.Volume.{Path}
 use Rattle.mq_cli.specs.Syntax.{app_for, verb_of}
 use Rattle.mq_cli.specs.declared.command.BlocksOptions.{BlocksOptions}
@@ -83,10 +84,6 @@ failing_in text = option_and_then
 abbrev pub failing_option : Option Text → Option (Option FailingCommand)
 failing_option None = Some None
 failing_option (Some text) = option_map Some (failing_in text)
-
--- a visible character of ASCII
-abbrev pub is_visible : ℕ → Bool
-is_visible b = nat_le 33 b && nat_le b 126
 
 -- a path begins with `/`, and has visible characters alone
 abbrev pub path_within : Text → Option Path

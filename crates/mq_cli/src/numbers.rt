@@ -4,7 +4,7 @@ ghost use Rattle.mq_cli.specs.Asked.{NamesCommand, failing_in, failing_option, n
 
 use crate::command::FailingCommand;
 use crate::refusal::WordsRefusal;
-use mq_block_text::read_number;
+use mq_block_text::number_of;
 
 /// The exclusive upper limit of the numbers of options.
 pub const NUMBER_END: u64 = 1 << 63;
@@ -22,7 +22,7 @@ pub const GROUPS_END: u64 = 10_001;
 fn number_below(limit: u64, word: &str) -> Option<u64>
     ensures { result ≡ number_within limit word.now }
 {
-    match read_number(word.as_bytes()) {
+    match number_of(word.as_bytes()) {
         Some(value) if value < limit => Some(value),
         _ => None,
     }

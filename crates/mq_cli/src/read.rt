@@ -6,10 +6,10 @@ ghost use Rattle.mq_cli.specs.Asked.{HasScript, HasSmallNumbers, NamesCommand, W
 ghost use Rattle.mq_cli.specs.declared.verb.Verb.TheVariants as verb;
 
 use crate::command::{BlocksOptions, Command, FailingCommand, RunFlags};
+use crate::found::{found_name, found_number, found_word};
 use crate::help::asks_help;
 use crate::numbers::{
     GROUPS_END, NUMBER_END, THREADS_END, geometry_word, number_in_bounds, optional_command,
-    optional_number,
 };
 use crate::parse::parse;
 use crate::path::path_of;
@@ -17,35 +17,6 @@ use crate::refusal::WordsRefusal;
 use crate::verb::{Verb, read_verb};
 use clap::ArgMatches;
 use std::alloc::Global;
-
-// The value of a name or an option, where one was found.
-fn found<'a>(matches: &ArgMatches<'a>, id: &str) -> Option<&'a str>
-    ensures { option_map (λ s. s.now) result ≡ first_of id.now (rows_of (found_of matches.now)) }
-{
-    matches.get_str(id)
-}
-
-// A name that was found.
-fn name<'a>(matches: &ArgMatches<'a>, id: &str) -> Result<&'a str, WordsRefusal>
-    ensures { MatchResult result (λ s. first_of id.now (rows_of (found_of matches.now)) ≡ Some s.now)
-        (λ e. (e ≡ WordsRefusal.Unknown) × (first_of id.now (rows_of (found_of matches.now)) ≡ None)) }
-{
-    match found(matches, id) {
-        Some(word) => Ok(word),
-        None => Err(WordsRefusal::Unknown),
-    }
-}
-
-// The number of an option.
-fn number(matches: &ArgMatches, id: &str) -> Result<Option<u64>, WordsRefusal>
-    ensures small { IfOk result (λ o. IfSome o (λ n. n < number_end)) }
-    ensures reads { MatchResult result
-        (λ n. number_option (first_of id.now (rows_of (found_of matches.now))) ≡ Some n)
-        (λ e. (e ≡ WordsRefusal.Unknown)
-        × (number_option (first_of id.now (rows_of (found_of matches.now))) ≡ None)) }
-{
-    optional_number(found(matches, id))
-}
 
 // The command of a port that an option names.
 fn failing(matches: &ArgMatches, id: &str) -> Result<Option<FailingCommand>, WordsRefusal>
@@ -55,7 +26,7 @@ fn failing(matches: &ArgMatches, id: &str) -> Result<Option<FailingCommand>, Wor
         (λ e. (e ≡ WordsRefusal.Unknown)
         × (failing_option (first_of id.now (rows_of (found_of matches.now))) ≡ None)) }
 {
-    optional_command(found(matches, id))
+    optional_command(found_word(matches, id))
 }
 
 // A number of a geometry.
@@ -64,7 +35,7 @@ fn word(matches: &ArgMatches, id: &str) -> Result<u32, WordsRefusal>
         (λ e. (e ≡ WordsRefusal.Unknown)
         × (word_in (first_of id.now (rows_of (found_of matches.now))) ≡ None)) }
 {
-    geometry_word(found(matches, id))
+    geometry_word(found_word(matches, id))
 }
 
 // A number that has to be in these bounds: not below the least, and below the limit.
@@ -75,7 +46,7 @@ fn bounded(matches: &ArgMatches, id: &str, least: u64, limit: u64) -> Result<u64
         (λ e. (e ≡ WordsRefusal.Unknown)
         × (number_from least limit (first_of id.now (rows_of (found_of matches.now))) ≡ None)) }
 {
-    number_in_bounds(least, limit, found(matches, id))
+    number_in_bounds(least, limit, found_word(matches, id))
 }
 
 // The words of a name, of which there is at least one.
@@ -117,12 +88,12 @@ fn blocks<'a>(matches: &ArgMatches<'a>) -> Result<Command<'a>, WordsRefusal>
     ensures small { IfOk result HasSmallNumbers }
     ensures script { IfOk result HasScript }
 {
-    let file = name(matches, "file")?;
-    let cut = number(matches, "cut")?;
-    let pick = number(matches, "pick")?;
-    let again = number(matches, "again")?;
-    let save = found(matches, "save");
-    let trace = found(matches, "trace");
+    let file = found_name(matches, "file")?;
+    let cut = found_number(matches, "cut")?;
+    let pick = found_number(matches, "pick")?;
+    let again = found_number(matches, "again")?;
+    let save = found_word(matches, "save");
+    let trace = found_word(matches, "trace");
     if is_one_name(save, trace) {
         return Err(WordsRefusal::Unknown);
     }
@@ -142,7 +113,7 @@ fn format<'a>(matches: &ArgMatches<'a>) -> Result<Command<'a>, WordsRefusal>
     ensures small { IfOk result HasSmallNumbers }
     ensures script { IfOk result HasScript }
 {
-    let image = name(matches, "image")?;
+    let image = found_name(matches, "image")?;
     let queues = word(matches, "queues")?;
     let area = word(matches, "area")?;
     let meta = word(matches, "meta")?;
@@ -164,9 +135,9 @@ fn run<'a>(alloc: Global, matches: &ArgMatches<'a>) -> Result<Command<'a>, Words
     ensures small { IfOk result HasSmallNumbers }
     ensures script { IfOk result HasScript }
 {
-    let image = name(matches, "image")?;
-    let cut = number(matches, "cut")?;
-    let pick = number(matches, "pick")?;
+    let image = found_name(matches, "image")?;
+    let cut = found_number(matches, "cut")?;
+    let pick = found_number(matches, "pick")?;
     let fail = failing(matches, "fail")?;
     let scripts = words_of(alloc, matches, "scripts")?;
     Ok(Command::Run {
@@ -184,9 +155,9 @@ fn recover<'a>(matches: &ArgMatches<'a>) -> Result<Command<'a>, WordsRefusal>
     ensures small { IfOk result HasSmallNumbers }
     ensures script { IfOk result HasScript }
 {
-    let image = name(matches, "image")?;
-    let cut = number(matches, "cut")?;
-    let pick = number(matches, "pick")?;
+    let image = found_name(matches, "image")?;
+    let cut = found_number(matches, "cut")?;
+    let pick = found_number(matches, "pick")?;
     Ok(Command::Recover { image, cut, pick })
 }
 
@@ -198,8 +169,8 @@ fn cat<'a>(alloc: Global, matches: &ArgMatches<'a>) -> Result<Command<'a>, Words
     ensures small { IfOk result HasSmallNumbers }
     ensures script { IfOk result HasScript }
 {
-    let image = name(matches, "image")?;
-    let word = name(matches, "path")?;
+    let image = found_name(matches, "image")?;
+    let word = found_name(matches, "path")?;
     let path = path_of(alloc, word)?;
     Ok(Command::Cat { image, path })
 }
@@ -219,7 +190,7 @@ fn workload<'a>(matches: &ArgMatches<'a>) -> Result<Command<'a>, WordsRefusal>
         seed,
         threads: threads as u32,
         groups: groups as u32,
-        save: found(matches, "save"),
+        save: found_word(matches, "save"),
     })
 }
 
@@ -231,9 +202,9 @@ fn replicate<'a>(matches: &ArgMatches<'a>) -> Result<Command<'a>, WordsRefusal>
     ensures small { IfOk result HasSmallNumbers }
     ensures script { IfOk result HasScript }
 {
-    let file = name(matches, "file")?;
-    let seed = number(matches, "seed")?;
-    let save = found(matches, "save");
+    let file = found_name(matches, "file")?;
+    let seed = found_number(matches, "seed")?;
+    let save = found_word(matches, "save");
     Ok(Command::Replicate { file, seed, save })
 }
 
@@ -245,10 +216,10 @@ fn loose<'a>(matches: &ArgMatches<'a>) -> Result<Command<'a>, WordsRefusal>
     ensures small { IfOk result HasSmallNumbers }
     ensures script { IfOk result HasScript }
 {
-    let file = name(matches, "file")?;
-    let cut = number(matches, "cut")?;
-    let pick = number(matches, "pick")?;
-    let save = found(matches, "save");
+    let file = found_name(matches, "file")?;
+    let cut = found_number(matches, "cut")?;
+    let pick = found_number(matches, "pick")?;
+    let save = found_word(matches, "save");
     Ok(Command::Loose {
         file,
         cut,
@@ -275,21 +246,21 @@ fn command_of<'a>(
         Verb::Run => run(alloc, matches),
         Verb::Recover => recover(matches),
         Verb::Ls => {
-            let image = name(matches, "image")?;
+            let image = found_name(matches, "image")?;
             Ok(Command::Ls { image })
         }
         Verb::Cat => cat(alloc, matches),
         Verb::Gen => workload(matches),
         Verb::Dump => {
-            let image = name(matches, "image")?;
+            let image = found_name(matches, "image")?;
             Ok(Command::Dump { image })
         }
         Verb::Check => {
-            let image = name(matches, "image")?;
+            let image = found_name(matches, "image")?;
             Ok(Command::Check { image })
         }
         Verb::Audit => {
-            let trace = name(matches, "trace")?;
+            let trace = found_name(matches, "trace")?;
             Ok(Command::Audit { trace })
         }
         Verb::Replicate => replicate(matches),

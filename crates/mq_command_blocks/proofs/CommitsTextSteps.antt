@@ -14,7 +14,7 @@ use Rattle.mq_drive.specs.Start.{IsPortOf}
 use Rattle.mq_drive.specs.declared.role.Role.TheVariants.{Queue}
 use Rattle.mq_nvme.specs.Says.{journal_reading}
 use Rattle.mq_command_blocks.specs.Commits.{IsCleanQueue, AllBelow, Keeps, ShowsMap, blocks_in, items_of, descriptor_for}
-use Rattle.mq_block_trace.specs.Prefixes.{IsReached, events_of, line_events}
+use Rattle.mq_block_trace.specs.Prefixes.{IsReached, events_of, line_events, places_upto}
 use Rattle.mq_command_blocks.specs.Cuts.{HasBounds, HasStopped, IsCut, IsEarly, QueueShows, rung_after, rung_by}
 use Rattle.mq_block_trace.specs.Lines.{set_in, writes_from, named, transaction_of, transactions_of, map_after}
 use Rattle.mq_pmr.specs.Runs.{Items, OwnsAll}
@@ -23,7 +23,7 @@ use Rattle.mq_block_text.specs.Text.{AreGoodItems, AreGoodLines, IsGoodText, set
 use Rattle.mq_block_text.specs.declared.item.BlockItem.{BlockItem}
 use Rattle.mq_block_text.proofs.TextParts.{good_items}
 use Rattle.mq_command_blocks.proofs.Cuts.{early_all, early_none, settled_port}
-use Rattle.mq_command_blocks.proofs.CutsEvents.{counted-counted, events_more, places_upto, rung_between, rung_inside}
+use Rattle.mq_command_blocks.proofs.CutsEvents.{counted-counted, events_more, rung_between, rung_inside}
 use Rattle.mq_command_blocks.proofs.CutsExits.{bounds_line, bounds_then, events_line, nearly_image, port_all}
 use Rattle.mq_block_trace.proofs.LinesFills.{length-writes, length-writes_sets, named_is}
 use Rattle.mq_command_blocks.proofs.LinesFills.{below_set, rising_writes}

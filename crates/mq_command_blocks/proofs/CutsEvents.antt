@@ -2,7 +2,7 @@
 use Rattle.std.proofs.Common.{◌≡◌, ◌<◌, ◌≤◌, ℕ, zero, suc, ◌+◌, ◌-◌, ◌*◌, Bool, cond, List, [], ◌∷◌, length, refl, sym, ◌∙◌, ap, subst, arith}
 use Rattle.std.proofs.lemmas.Bool.{le-ltb, lt-ltb}
 use Rattle.mq_blocks.specs.Drive.{counted}
-use Rattle.mq_block_trace.specs.Prefixes.{events_of, line_events}
+use Rattle.mq_block_trace.specs.Prefixes.{events_of, line_events, places_upto}
 use Rattle.mq_command_blocks.specs.Cuts.{rung_after, rung_by, rung_upto}
 use Rattle.mq_block_trace.specs.Lines.{line_at}
 use Rattle.mq_block_text.specs.Text.{places_of, sets_in}
@@ -39,11 +39,6 @@ rung_none entries events less = sym (ap (λ (b : Bool). cond b 0 entries) (lt-lt
 -- with it, by all its entries
 pub rung_all : (entries events : ℕ) → entries + 2 ≤ events → rung_by entries events ≡ entries
 rung_all entries events more = ap (λ (b : Bool). cond b 0 entries) (le-ltb events (entries + 2) more)
-
--- the places that the first n lines take
-abbrev pub places_upto : List (List BlockItem) → ℕ → ℕ
-places_upto lines zero = 0
-places_upto lines (suc n) = places_upto lines n + (sets_in (line_at lines n) + 1)
 
 -- the lines whose events are over have moved it by their places
 rung_over : (lines : List (List BlockItem)) (events n : ℕ) → events_of lines n ≤ events → rung_upto lines events n ≡ places_upto lines n

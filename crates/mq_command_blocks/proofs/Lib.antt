@@ -19,3 +19,4 @@ pub mod CommitsRungEntries
 pub mod SaysOfBlocksDecided
 pub mod Parts
 pub mod CommitsTextSteps
+pub mod ItemsWrites

@@ -36,6 +36,24 @@ pub fn filled(alloc: Global, byte: u8) -> Result<Block, OutOfMemory>
     Ok(block)
 }
 
+/// The blocks that are filled, each with its content.
+pub fn filled_writes(
+    alloc: Global,
+    fills: &[Option<u8>],
+) -> Result<Vec<(BlockNo, Block)>, OutOfMemory>
+    requires { length fills.now ≡ 256 }
+    ensures { IfOk result (λ v. v.items ≡ writes_from (λ b. slice_index_or fills.now b None) 0 named) }
+{
+    let mut writes = Vec::new(alloc);
+    for b in 0..NAMED {
+        match fills[b] {
+            None => {}
+            Some(byte) => writes.push((BlockNo(b as u32), filled(alloc, byte)?))?,
+        }
+    }
+    Ok(writes)
+}
+
 // A copy of each block that is filled, from a place on.
 fn copies(
     alloc: Global,

@@ -12,6 +12,6 @@ mod restart;
 
 pub use command::{run_blocks, save_file, say_refusal};
 pub use commit::{TextRefusal, commit_text};
-pub use items::filled;
+pub use items::{filled, filled_writes};
 pub use live::{live_blocks, live_marks};
 pub use restart::only_memory;

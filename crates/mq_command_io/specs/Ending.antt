@@ -1,6 +1,6 @@
 -- How a command ends: the one text that there is to say, with a status.
-use Rattle.std.specs.Prelude.{◌≡◌, ◌<◌, ◌≤◌, ◌⊎◌, ℕ, ◌+◌, List, [], ◌∷◌, ◌++◌, nat_eq, if◌then◌else◌, codes}
-use Rattle.mq_outside.specs.Outside.{FilesState, SinkState, Holds, HoldsOver, OthersSame, Rose, TriesAtMost, appended, AppendsPrefix, count_end, load_limit, put_name, tried_too}
+use Rattle.std.specs.Prelude.{◌≡◌, ◌<◌, ◌≤◌, ◌⊎◌, ℕ, ◌+◌, ◌*◌, false, List, [], ◌∷◌, ◌++◌, All, Option, Some, None, nat_eq, bytes_eq, if◌then◌else◌, codes}
+use Rattle.mq_outside.specs.Outside.{FilesState, Held, SinkState, Holds, HoldsOver, OthersSame, Rose, TriesAtMost, appended, AppendsPrefix, count_end, load_limit, put_name, tried_too}
 
 -- ---- the lines that are no output
 
@@ -89,3 +89,29 @@ pub data IsNotSaved (name : List ℕ) (old new : FilesState) : (status : ℕ) �
       → new.taken ≡ old.taken → new.tried ≡ old.tried → IsNotSaved name old new 4 (save_line name)
   save_memory : new.contents ≡ old.contents → new.faults ≡ old.faults → new.taken ≡ old.taken
       → new.tried ≡ old.tried → IsNotSaved name old new 6 memory_line
+
+-- ---- several names
+
+-- this text, and no file is looked at
+pub data SaysOnly (line : List ℕ) (old new : FilesState) : (status : ℕ) → (text : List ℕ) → Type 0 where
+  said : new ≡ old → SaysOnly line old new 0 line
+
+-- After the names before it were loaded, one of these names holds more bytes than one load gives, and the
+-- load of this name took more.
+abbrev pub HoldsTooMuch : List (List ℕ) → (old new : FilesState) → Type 0
+HoldsTooMuch [] old new = ⊥
+HoldsTooMuch (name ∷ names) old new =
+    (HoldsOver old.contents name × TakesOver old.taken new.taken)
+    ⊎ ((bytes : List ℕ) × (mid : FilesState) × IsLoaded name bytes old mid × HoldsTooMuch names mid new)
+
+-- the loads took at most what so many loads give
+abbrev pub TakesUpTo : (loads : ℕ) → (old new : ℕ) → Type 0
+TakesUpTo loads old new = (old ≤ new) × (new ≤ old + loads * load_limit)
+
+-- what each name holds that is none of these is as before
+abbrev pub KeepsOthers : (names : List (List ℕ)) → (old new : Option Held) → Type 0
+KeepsOthers names None None = Unit {0}
+KeepsOthers names None (Some new) = ⊥
+KeepsOthers names (Some old) None = ⊥
+KeepsOthers names (Some old) (Some new) =
+    (other : List ℕ) → All (λ name. bytes_eq other name ≡ false) names → new other ≡ old other

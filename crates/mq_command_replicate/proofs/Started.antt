@@ -16,6 +16,7 @@ use Rattle.mq_image.specs.File.{DriveImage, queue_ports, root_port}
 use Rattle.mq_image_ops.specs.Empty.{IsBlankDrive}
 use Rattle.mq_image_ops.specs.Starts.{AreStarted}
 use Rattle.mq_image_ops.specs.Views.{port_from, view_of}
+use Rattle.mq_image_ops.proofs.Unwritten.{IsUnwritten, whole_none}
 use Rattle.mq_image_ops.proofs.Views.{queue-in, start-queue, still-under, start-view}
 use Rattle.mq_ledger.specs.State.{port_at}
 use Rattle.mq_recover.specs.Drives.{DriveState, drive_of, view_over}
@@ -33,12 +34,6 @@ use Rattle.mq_command_replicate.proofs.HeldLines.{last_is}
 use Rattle.mq_command_replicate.proofs.Lasting.{still_lasting}
 
 -- ---- an image on which nothing was ever written shows no transaction
-
--- the words of the queues and the base are 0
-pub record IsUnwritten (g : Geometry) (i : Shown) : Type 0 where
-  pub base : i.base ≡ 0
-  pub head : (q : ℕ) → q < g.queues → i.head q ≡ 0
-  pub doorbell : (q : ℕ) → q < g.queues → i.doorbell q ≡ 0
 
 chain_none : (g : Geometry) (i : Shown) (q number place : ℕ) (ds : List Descriptor) → number ≡ 0 → IsChain g i q number place ds → ds ≡ []
 chain_none g i q number place [] none chain = refl
@@ -62,33 +57,6 @@ top_none g i chains top un is = elim is.shown.where_from [
 pub prefix_none : (g : Geometry) (i : Shown) (ds : List Descriptor) → IsUnwritten g i → Reaches g i ds → ds ≡ []
 prefix_none g i [] un r = refl
 prefix_none g i (d ∷ ds) un r = let h = r.prefix.whole d (inl refl) in absurd (none_in g i r.chains un r.whole d.queue d h.0 h.1)
-
--- so it is readable
-whole_none : (g : Geometry) (i : Shown) → IsUnwritten g i → AreWhole g i (λ q. [])
-whole_none g i un = record {
-  limit = (let e = un.base in omega (arith, e));
-  each = λ q low. (
-      let head = un.head q low in
-      let doorbell = un.doorbell q low in
-      record {
-        number = 0;
-        lba = 0;
-        place = 0;
-        order = omega (arith, head, doorbell);
-        few = omega (arith, head, doorbell);
-        low = omega (arith, doorbell);
-        none = λ e. refl;
-        newest = λ some. absurd (omega (arith, some, head));
-        limit = omega arith;
-        own = λ less. absurd (omega (arith, less));
-        chain = omega arith;
-        reach = tt;
-        rung = λ c from to. absurd (omega (arith, to, doorbell));
-        rung_whole = λ less. absurd (omega (arith, less, doorbell));
-      }
-      );
-  once = λ q r low lower other d e has. absurd has;
-}
 
 -- ---- a block that says 0, and where the last block lies
 

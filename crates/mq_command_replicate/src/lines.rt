@@ -1,8 +1,9 @@
 // What is printed of a replica.
 ghost use Rattle.std.specs.Prelude.{◌≡◌, ◌++◌, ◌∷◌, [], IfOk, codes, string_bytes};
-ghost use Rattle.mq_block_text.specs.Text.{hex_text, number_text};
+ghost use Rattle.mq_block_text.specs.Text.{number_text};
 ghost use Rattle.mq_command_replicate.specs.Replicas.{replica_text};
 
+use mq_block_text::block_line;
 use mq_blocks::{BlockNo, OutOfMemory, TxNo};
 use std::alloc::{AllocError, Global};
 
@@ -10,12 +11,6 @@ fn reached_line(alloc: Global, reached: u64) -> Result<String, AllocError>
     ensures { IfOk result (λ s. string_bytes s ≡ codes "reached " ++ number_text reached ++ 10 ∷ []) }
 {
     format!(in alloc; "reached {reached}\n")
-}
-
-fn block_line(alloc: Global, block: u32, byte: u8) -> Result<String, AllocError>
-    ensures { IfOk result (λ s. string_bytes s ≡ number_text block ++ 32 ∷ hex_text byte ++ 10 ∷ []) }
-{
-    format!(in alloc; "{block} {byte:02x}\n")
 }
 
 /// The number that the replica has reached, and then each live block with the byte that all of it has.

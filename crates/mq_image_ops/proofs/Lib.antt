@@ -10,3 +10,4 @@ pub mod Standing
 pub mod RecoveringTally
 pub mod StandingVolumes
 pub mod ViewsFiles
+pub mod Unwritten

@@ -2,9 +2,7 @@
 #![tactic(auto)]
 
 mod command;
-mod help;
 mod help_text;
-mod numbers;
 mod parse;
 mod read;
 mod syntax;

@@ -1,32 +1,14 @@
 // Words as `clap` reads them.
-ghost use Rattle.std.specs.Prelude.{◌≡◌, ◌≢◌, ◌⊎◌, [], IfErr, IfOk, None, map};
+ghost use Rattle.std.specs.Prelude.{◌≡◌, ◌≢◌, ◌⊎◌, [], IfErr, IfOk, map};
 ghost use Rattle.std.specs.String.{string_bytes};
-ghost use Rattle.clap.specs.Words.{app_of, fault_of, found_of, kind_of, matches_of, rows_of};
-ghost use Rattle.mq_cli.specs.Syntax.{app_with};
-ghost use Rattle.mq_kv_cli.specs.Syntax.{app_for, names_for, verb_text};
+ghost use Rattle.clap.specs.Words.{app_of, fault_of, found_of, matches_of, rows_of};
+ghost use Rattle.mq_kv_cli.specs.Syntax.{app_for};
 
 use crate::syntax::{names, options};
 use crate::verb::Verb;
-use clap::error::ErrorKind;
 use clap::{Arg, ArgAction, ArgMatches, Command};
-use mq_cli::WordsRefusal;
+use mq_cli::{WordsRefusal, parse_words, with_names};
 use std::alloc::{AllocError, Global};
-
-// A command with these names, each of which has to stand as one word, and no option.
-fn with_names<'a>(
-    alloc: Global,
-    verb: &'a str,
-    names: &[&'a str],
-) -> Result<Command<'a>, AllocError>
-    ensures { IfOk result (λ c. app_of c ≡ app_with verb.now (map (λ s. s.now) names.now) None []) }
-{
-    let mut command = Command::new(alloc, verb).disable_help_flag(true);
-    for name in names {
-        let name = Arg::new(alloc, name).required(true).action(ArgAction::Set);
-        command = command.arg(name)?;
-    }
-    Ok(command)
-}
 
 // The command of a verb.
 fn command_for<'a>(alloc: Global, verb: Verb) -> Result<Command<'a>, AllocError>
@@ -53,11 +35,5 @@ pub fn parse<'a>(
         ⊎ ((e ≡ WordsRefusal.Unknown) × (fault_of (app_for verb) (map string_bytes words.now) ≢ []))) }
 {
     let command = command_for(alloc, verb)?;
-    match command.try_get_matches_from(words) {
-        Ok(matches) => Ok(matches),
-        Err(error) => match error.kind() {
-            ErrorKind::OutOfMemory => Err(WordsRefusal::OutOfMemory),
-            _ => Err(WordsRefusal::Unknown),
-        },
-    }
+    parse_words(command, words)
 }

@@ -1,48 +1,17 @@
 // What words ask.
-ghost use Rattle.std.specs.Prelude.{◌≡◌, ◌<◌, ◌⊎◌, None, Some, IfOk, IfSome, MatchResult, map, option_map};
+ghost use Rattle.std.specs.Prelude.{◌≡◌, ◌⊎◌, None, Some, IfOk, MatchResult, map};
 ghost use Rattle.std.specs.String.{string_bytes};
-ghost use Rattle.clap.specs.Words.{first_of, found_of, rows_of};
-ghost use Rattle.mq_cli.specs.Asked.{Words, number_end, number_option};
+ghost use Rattle.clap.specs.Words.{found_of, rows_of};
+ghost use Rattle.mq_cli.specs.Asked.{Words};
 ghost use Rattle.mq_kv_cli.specs.Asked.{HasSmallNumbers, asked, asked_after, asked_by, asked_of, found_in};
 ghost use Rattle.mq_kv_cli.specs.declared.verb.Verb.TheVariants as verb;
 
 use crate::command::{ApplyOptions, Command};
-use crate::help::asks_help;
-use crate::numbers::optional_number;
 use crate::parse::parse;
 use crate::verb::{Verb, read_verb};
 use clap::ArgMatches;
-use mq_cli::WordsRefusal;
+use mq_cli::{WordsRefusal, asks_help, found_name, found_number};
 use std::alloc::Global;
-
-// The value of a name or an option, where one was found.
-fn found<'a>(matches: &ArgMatches<'a>, id: &str) -> Option<&'a str>
-    ensures { option_map (λ s. s.now) result ≡ first_of id.now (rows_of (found_of matches.now)) }
-{
-    matches.get_str(id)
-}
-
-// A name that was found.
-fn name<'a>(matches: &ArgMatches<'a>, id: &str) -> Result<&'a str, WordsRefusal>
-    ensures { MatchResult result (λ s. first_of id.now (rows_of (found_of matches.now)) ≡ Some s.now)
-        (λ e. (e ≡ WordsRefusal.Unknown) × (first_of id.now (rows_of (found_of matches.now)) ≡ None)) }
-{
-    match found(matches, id) {
-        Some(word) => Ok(word),
-        None => Err(WordsRefusal::Unknown),
-    }
-}
-
-// The number of an option.
-fn number(matches: &ArgMatches, id: &str) -> Result<Option<u64>, WordsRefusal>
-    ensures small { IfOk result (λ o. IfSome o (λ n. n < number_end)) }
-    ensures reads { MatchResult result
-        (λ n. number_option (first_of id.now (rows_of (found_of matches.now))) ≡ Some n)
-        (λ e. (e ≡ WordsRefusal.Unknown)
-        × (number_option (first_of id.now (rows_of (found_of matches.now))) ≡ None)) }
-{
-    optional_number(found(matches, id))
-}
 
 // What is found of `new` asks.
 fn new_image<'a>(matches: &ArgMatches<'a>) -> Result<Command<'a>, WordsRefusal>
@@ -51,7 +20,7 @@ fn new_image<'a>(matches: &ArgMatches<'a>) -> Result<Command<'a>, WordsRefusal>
         × (asked_by verb.New (rows_of (found_of matches.now)) ≡ None)) }
     ensures small { IfOk result HasSmallNumbers }
 {
-    let image = name(matches, "image")?;
+    let image = found_name(matches, "image")?;
     Ok(Command::New { image })
 }
 
@@ -62,10 +31,10 @@ fn apply<'a>(matches: &ArgMatches<'a>) -> Result<Command<'a>, WordsRefusal>
         × (asked_by verb.Apply (rows_of (found_of matches.now)) ≡ None)) }
     ensures small { IfOk result HasSmallNumbers }
 {
-    let image = name(matches, "image")?;
-    let file = name(matches, "file")?;
-    let cut = number(matches, "cut")?;
-    let pick = number(matches, "pick")?;
+    let image = found_name(matches, "image")?;
+    let file = found_name(matches, "file")?;
+    let cut = found_number(matches, "cut")?;
+    let pick = found_number(matches, "pick")?;
     Ok(Command::Apply {
         image,
         file,

@@ -6,6 +6,8 @@ use Rattle.std.proofs.Math.Seq.{drop-append_seam, take-append_seam}
 use Rattle.std.proofs.lemmas.List.{append_cancel_right, map-append}
 use Rattle.mq_block_text.specs.Refusals.{ended}
 use Rattle.mq_block_text.proofs.TextParts.{Avoids, split_of_join}
+use Rattle.mq_block_text.proofs.WordsLines.{ended_join, lines_again, some_lines}
+use Rattle.mq_block_text.specs.Words.{lines_of}
 use Rattle.mq_kv_buckets.specs.declared.operation.KvOp.{KvOp}
 use Rattle.mq_kv_text.specs.Files.{IsFile, IsLine, IsMisread, IsRefusal, IsRefused, IsSpellable, IsWrong, asked_lines, file_lines, groups_text, line_text, op_text, ops_text}
 use Rattle.mq_kv_text.specs.declared.line.Line.{Line}
@@ -13,8 +15,6 @@ use Rattle.mq_kv_text.specs.declared.line.Line.TheVariants.{Asks, Syncs}
 use Rattle.mq_kv_text.specs.declared.refusal.KvTextRefusal.{KvTextRefusal}
 use Rattle.mq_kv_text.specs.declared.refusal.KvTextRefusal.TheVariants.{Line as At, OutOfMemory}
 use Rattle.mq_kv_text.proofs.LinesSpelled.{line_avoids, same_line}
-use Rattle.mq_script.proofs.Reading.{ended_join, lines_again, some_lines}
-use Rattle.mq_script.specs.Reading.{lines_of}
 
 -- ---- the lines of a file
 

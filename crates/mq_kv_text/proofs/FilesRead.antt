@@ -6,6 +6,8 @@ use Rattle.std.proofs.lemmas.Bool.{false≢true, ne_eqb}
 use Rattle.std.proofs.lemmas.List.{length-map, length-take, take_all}
 use Rattle.mq_block_text.specs.Refusals.{ended}
 use Rattle.mq_block_text.proofs.TextLines.{told_parts, told_push}
+use Rattle.mq_block_text.proofs.WordsLines.{lines_are}
+use Rattle.mq_block_text.specs.Words.{lines_of}
 use Rattle.mq_kv_buckets.specs.declared.operation.KvOp.{KvOp}
 use Rattle.mq_kv_text.specs.Files.{IsFile, IsLine, IsMisread, IsRefused, IsSpellable, LacksSync, asked_lines, file_lines, line_text, lines_so_far, refusal_at}
 use Rattle.mq_kv_text.specs.declared.line.Line.{Line}
@@ -13,8 +15,6 @@ use Rattle.mq_kv_text.specs.declared.line.Line.TheVariants.{Asks, Syncs}
 use Rattle.mq_kv_text.specs.declared.refusal.Misread.{Misread}
 use Rattle.mq_kv_text.specs.declared.refusal.Misread.TheVariants.{Form, OutOfMemory as NoMemory}
 use Rattle.mq_kv_text.proofs.FilesOnce.{text_of_file}
-use Rattle.mq_script.proofs.Spelled.{lines_are}
-use Rattle.mq_script.specs.Reading.{lines_of}
 
 -- ---- one more line
 

@@ -5,31 +5,22 @@ use Rattle.std.specs.List.{find, join_with_byte, list_all, slice_split}
 use Rattle.std.proofs.lemmas.List.Splits.{join_with_byte-slice_split}
 use Rattle.std.proofs.lemmas.Slice.Eq.{bytes_eq-Decides}
 use Rattle.mq_block_text.proofs.TextParts.{Avoids, split_of_join}
+use Rattle.mq_block_text.specs.Words.{is_visible, is_plain}
+use Rattle.mq_block_text.proofs.WordsLines.{avoids, joined, no_feed, plain_of, visible_space, word_found}
 use Rattle.mq_kv_buckets.specs.declared.operation.KvOp.TheVariants.{Delete, Get, Put}
-use Rattle.mq_kv_text.specs.Files.{IsLine, is_visible, is_word, line_text, line_words}
+use Rattle.mq_kv_text.specs.Files.{IsLine, is_word, line_text, line_words}
 use Rattle.mq_kv_text.specs.Verbs.{verb_in, verb_text, verbs}
 use Rattle.mq_kv_text.specs.declared.line.Line.{Line}
 use Rattle.mq_kv_text.specs.declared.line.Line.TheVariants.{Asks, Syncs}
 use Rattle.mq_kv_text.specs.declared.refusal.Misread.{Misread}
 use Rattle.mq_kv_text.specs.declared.refusal.Misread.TheVariants.{Form}
 use Rattle.mq_kv_text.specs.declared.verb.Verb.{Verb}
-use Rattle.mq_script.proofs.PrintingWords.{avoids, joined, weaker}
-use Rattle.mq_script.specs.Lines.{is_plain}
 
 -- ---- the bytes of words
 
 word_visible : (word : List ℕ) → is_word word ≡ true → list_all is_visible word ≡ true
 word_visible [] h = refl
 word_visible (b ∷ bytes) h = h
-
-visible_space : (b : ℕ) → is_visible b ≡ true → eqb b 32 ≡ false
-visible_space b h = grind arith
-
-visible_plain : (b : ℕ) → is_visible b ≡ true → is_plain b ≡ true
-visible_plain b h = grind arith
-
-plain_feed : (b : ℕ) → is_plain b ≡ true → eqb b 10 ≡ false
-plain_feed b h = grind arith
 
 no_space : (word : List ℕ) → list_all is_visible word ≡ true → Avoids 32 word
 no_space word h = avoids is_visible 32 visible_space word h
@@ -38,7 +29,7 @@ word_no_space : (word : List ℕ) → is_word word ≡ true → Avoids 32 word
 word_no_space word h = no_space word (word_visible word h)
 
 word_plain : (word : List ℕ) → is_word word ≡ true → list_all is_plain word ≡ true
-word_plain word h = weaker is_visible is_plain visible_plain word (word_visible word h)
+word_plain word h = plain_of word (word_visible word h)
 
 -- ---- a line is its words, joined by spaces
 
@@ -64,9 +55,6 @@ line_plain (Asks (Put k v)) good = joined is_plain k (32 ∷ v) (word_plain k go
 line_plain (Asks (Delete k)) good = word_plain k good
 line_plain (Asks (Get k)) good = word_plain k good
 line_plain Syncs good = refl
-
-pub no_feed : (text : List ℕ) → list_all is_plain text ≡ true → Avoids 10 text
-no_feed text h = avoids is_plain 10 plain_feed text h
 
 pub line_avoids : (l : Line) → IsLine l → Avoids 10 (line_text l)
 line_avoids l good = no_feed (line_text l) (line_plain l good)
@@ -101,16 +89,8 @@ same_line l m good also e = line_once l m (sym (words_of_line l good) ∙ ap (sl
 
 -- ---- verbs
 
-found : (word : List ℕ) (all : List Verb) (v : Verb) → find (λ x. bytes_eq word (verb_text x)) all ≡ Some v → word ≡ verb_text v
-found word [] v e = absurd (cc)
-found word (x ∷ all) v e = step (λ q. found word all v q) (bytes_eq word (verb_text x)) refl e
-  where
-    step : (find (λ y. bytes_eq word (verb_text y)) all ≡ Some v → word ≡ verb_text v) → (t : Bool) → bytes_eq word (verb_text x) ≡ t → cond t (Some x) (find (λ y. bytes_eq word (verb_text y)) all) ≡ Some v → word ≡ verb_text v
-    step again true is p = let same : x ≡ v = cc in (bytes_eq-Decides word (verb_text x)).0 is ∙ ap verb_text same
-    step again false is p = again p
-
 pub verb_found : (word : List ℕ) (v : Verb) → Some v ≡ verb_in word → word ≡ verb_text v
-verb_found word v e = found word verbs v (sym e)
+verb_found word v e = word_found verb_text word verbs v (sym e)
 
 none_some : (v : Verb) → ◌≡◌ {A = Option Verb} None (Some v) → ⊥
 none_some v e = cc

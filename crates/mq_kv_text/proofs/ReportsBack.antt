@@ -7,19 +7,17 @@ use Rattle.std.proofs.lemmas.Bool.{ne_eqb}
 use Rattle.std.proofs.lemmas.Fmt.{digits_value-decimal}
 use Rattle.mq_block_text.proofs.TextNumbers.{own}
 use Rattle.mq_block_text.proofs.TextParts.{Avoids, avoids_append}
+use Rattle.mq_block_text.proofs.WordsLines.{lines_again, number_visible, plain_of, no_feed}
+use Rattle.mq_block_text.specs.Words.{lines_of}
 use Rattle.mq_kv_buckets.specs.declared.operation.KvFault.{KvFault}
 use Rattle.mq_kv_buckets.specs.declared.operation.KvFault.TheVariants.{BucketFull, KeySize, ValueSize}
 use Rattle.mq_kv_buckets.specs.declared.operation.KvReply.{KvReply}
 use Rattle.mq_kv_buckets.specs.declared.operation.KvReply.TheVariants.{Done, Missing, Refused, Value}
-use Rattle.mq_script.proofs.Reading.{lines_again}
-use Rattle.mq_kv_text.proofs.LinesSpelled.{no_feed}
 use Rattle.mq_kv_text.specs.Reports.{IsPlain, IsPlainGroup, IsPlainLast, IsPlainReply, Report, group_lines, groups_lines, last_line, reply_text, report_lines, report_text}
 use Rattle.mq_kv_text.specs.declared.report.GroupReport.{GroupReport}
 use Rattle.mq_kv_text.specs.declared.report.GroupReport.TheVariants.{Large, Off, Synced as WasSynced}
 use Rattle.mq_kv_text.specs.declared.report.LastLine.{LastLine}
 use Rattle.mq_kv_text.specs.declared.report.LastLine.TheVariants.{Clean, Cut}
-use Rattle.mq_script.proofs.PrintingLines.{number_visible, plain_of}
-use Rattle.mq_script.specs.Reading.{lines_of}
 
 -- ---- what lines say
 

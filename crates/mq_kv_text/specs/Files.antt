@@ -1,9 +1,9 @@
 -- Files of groups of operations: their bytes, and the first line that is not in the form.
 use Rattle.std.specs.Prelude.{◌≡◌, ◌≢◌, ◌⊎◌, ℕ, ◌+◌, Bool, true, false, ◌&&◌, nat_le, List, [], ◌∷◌, ◌++◌, codes, length, map, Result, MatchResult}
 use Rattle.std.specs.List.{AllByRecursion, list_all}
+use Rattle.mq_block_text.specs.Words.{is_visible, lines_of}
 use Rattle.mq_kv_buckets.specs.declared.operation.KvOp.{KvOp}
 use Rattle.mq_kv_buckets.specs.declared.operation.KvOp.TheVariants.{Delete, Get, Put}
-use Rattle.mq_script.specs.Reading.{lines_of}
 use Rattle.mq_kv_text.specs.declared.line.Line.{Line}
 use Rattle.mq_kv_text.specs.declared.line.Line.TheVariants.{Asks, Syncs}
 use Rattle.mq_kv_text.specs.declared.refusal.KvTextRefusal.{KvTextRefusal}
@@ -12,10 +12,6 @@ use Rattle.mq_kv_text.specs.declared.refusal.Misread.{Misread}
 use Rattle.mq_kv_text.specs.declared.refusal.Misread.TheVariants.{Form, OutOfMemory as NoMemory}
 
 -- ---- words
-
--- a byte from 21h to 7Eh
-abbrev pub is_visible : ℕ → Bool
-is_visible b = nat_le 33 b && nat_le b 126
 
 -- a key or a value: at least one byte, and each of them visible
 abbrev pub is_word : List ℕ → Bool

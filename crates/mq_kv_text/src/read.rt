@@ -6,8 +6,8 @@ ghost use Rattle.mq_kv_text.specs.declared.refusal.KvTextRefusal.TheVariants.{Ou
 
 use crate::line::{Line, read_line};
 use crate::refusal::KvTextRefusal;
+use mq_block_text::cut_lines;
 use mq_kv_buckets::KvOp;
-use mq_script::cut_lines;
 use std::alloc::Global;
 use std::marker::Model;
 use std::mem;

@@ -4,8 +4,9 @@ use Rattle.std.specs.List.{Contains}
 use Rattle.std.specs.Prelude.{bytes_eq}
 use Rattle.mq_command_images.specs.Commands.{RefusesName, SaysNothing, SaysOfImage, is_image}
 use Rattle.mq_command_images.specs.Commands as commands
-use Rattle.mq_command_io.specs.Ending.{IsLoaded, IsNotLoaded, IsNotSaved, IsSaved, SaysOf, TakesOver, TakesWithin, load_failed, load_memory, load_too_long, loaded, memory_line, save_failed, save_memory}
+use Rattle.mq_command_io.specs.Ending.{IsLoaded, IsNotLoaded, IsNotSaved, IsSaved, SaysOf, TakesOver, TakesWithin, load_failed, load_memory, load_too_long, loaded, memory_line, save_failed, save_memory, HoldsTooMuch, TakesUpTo, KeepsOthers, SaysOnly, said}
 use Rattle.mq_command_io.specs.Ending as ending
+use Rattle.mq_command_io.proofs.Ending.{keeps, keeps-but, saved-others}
 use Rattle.mq_image.specs.File.{DriveImage, image_bytes}
 use Rattle.mq_kv_cli.specs.Asked.{Asked, apply, help, make, version}
 use Rattle.mq_kv_cli.specs.declared.command.ApplyOptions.{ApplyOptions}
@@ -16,8 +17,8 @@ use Rattle.mq_kv_tool.specs.Applies as applies
 use Rattle.mq_kv_tool.specs.Makes.{Makes, made, not_made}
 use Rattle.mq_kv_tool.specs.Makes as makes
 use Rattle.mq_kv_tool.specs.Outcome.{Gives}
-use Rattle.mq_kv_tool.specs.Program.{HoldsTooMuch, IsStatus, KeepsOthers, TakesUpTo, loaded_names, saved_names}
-use Rattle.mq_kv_tool.specs.Says.{Says, SaysOnly, kv_options, said}
+use Rattle.mq_kv_tool.specs.Program.{IsStatus, loaded_names, saved_names}
+use Rattle.mq_kv_tool.specs.Says.{Says, kv_options}
 use Rattle.mq_outside.specs.Outside.{FilesState, Held, Holds, HoldsOver, OthersSame, Rose, put_name}
 
 -- nothing failed, and no name changed
@@ -115,27 +116,6 @@ course (help topic) old new status text says = of-only (help topic) _ old new st
 course version old new status text says = of-only version _ old new status text says
 
 -- ---- names
-
-same-others : (names : List (List ℕ)) (old : Option Held) → KeepsOthers names old old
-same-others names None = tt
-same-others names (Some held) = λ other apart. refl
-
-pub keeps : (names : List (List ℕ)) (old new : FilesState) → new.contents ≡ old.contents → KeepsOthers names old.contents new.contents
-keeps names old new same = subst (KeepsOthers names old.contents) (sym same) (same-others names old.contents)
-
--- where no name changed but this one
-keeps-but : (names : List (List ℕ)) (name : List ℕ) → Contains names name → (old new : Option Held) → OthersSame old new name → KeepsOthers names old new
-keeps-but names name one None None same = tt
-keeps-but names name one None (Some new) same = same
-keeps-but names name one (Some old) None same = same
-keeps-but names name one (Some old) (Some new) same = λ other apart. same other (subst (λ (n : List ℕ). bytes_eq other n ≡ false) one.2 (apart one.0 name one.1))
-
-put-others : (old : Option Held) (name bytes : List ℕ) → OthersSame old (put_name old name bytes) name
-put-others None name bytes = tt
-put-others (Some held) name bytes = λ other apart. ap (λ (b : Bool). cond b (Some bytes) (held other)) apart
-
-saved-others : (name bytes : List ℕ) (old new : FilesState) → IsSaved name bytes old new → OthersSame old.contents new.contents name
-saved-others name bytes old new save = subst (λ (o : Option Held). OthersSame old.contents o name) (sym save.contents) (put-others old.contents name bytes)
 
 others-from : (old mid new : FilesState) (name : List ℕ) → mid.contents ≡ old.contents → OthersSame mid.contents new.contents name → OthersSame old.contents new.contents name
 others-from old mid new name same others = subst (λ (o : Option Held). OthersSame o new.contents name) same others

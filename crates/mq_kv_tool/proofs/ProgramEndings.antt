@@ -6,8 +6,8 @@ use Rattle.std.specs.Prelude.{nat_eq}
 use Rattle.mq_cli.specs.Asked.{Words}
 use Rattle.mq_cli.specs.declared.refusal.WordsRefusal.{WordsRefusal}
 use Rattle.mq_cli.specs.declared.refusal.WordsRefusal.TheVariants as refusal
-use Rattle.mq_command_io.specs.Ending.{EndsWith, IsNotLoaded, IsNotSaved, IsUnlessFailed, load_failed, load_memory, load_too_long, memory_line, save_failed, save_memory}
-use Rattle.mq_command_io.proofs.Ending.{four-or-six, not-loaded-same, unless_wanting}
+use Rattle.mq_command_io.specs.Ending.{EndsWith, IsNotLoaded, IsNotSaved, IsUnlessFailed, load_failed, load_memory, load_too_long, memory_line, save_failed, save_memory, HoldsTooMuch, TakesUpTo, KeepsOthers, said}
+use Rattle.mq_command_io.proofs.Ending.{four-or-six, not-loaded-same, unless_wanting, said_or, not-saved-zero, not-loaded-zero, low_failed}
 use Rattle.mq_kv_cli.specs.Asked.{Asked, apply, asked_of, help, make, version}
 use Rattle.mq_kv_cli.specs.declared.command.ApplyOptions.{ApplyOptions}
 use Rattle.mq_kv_text.specs.Reports.{usage_text}
@@ -30,8 +30,8 @@ use Rattle.mq_kv_tool.specs.Decided.{Decides, HaveFiles, above_limit, bad_bucket
 use Rattle.mq_kv_tool.specs.Makes.{Makes, made, not_made}
 use Rattle.mq_kv_tool.specs.Makes as makes
 use Rattle.mq_kv_tool.specs.Outcome.{HasApplied, HasMade, IsMisreadFile}
-use Rattle.mq_kv_tool.specs.Program.{AreUnknown, HoldsTooMuch, IsSaid, IsStatus, IsToSay, IsTooLong, KeepsNames, KeepsOthers, TakesFor, TakesUpTo, loaded_by, loaded_names, no_command, no_memory, of_command, saved_by, saved_names}
-use Rattle.mq_kv_tool.specs.Says.{Says, kv_options, said}
+use Rattle.mq_kv_tool.specs.Program.{AreUnknown, IsSaid, IsStatus, IsToSay, IsTooLong, KeepsNames, TakesFor, loaded_by, loaded_names, no_command, no_memory, of_command, saved_by, saved_names}
+use Rattle.mq_kv_tool.specs.Says.{Says, kv_options}
 use Rattle.mq_kv_tool.proofs.Course.{MisreadOf, course, misread-of, told}
 use Rattle.mq_kv_tool.proofs.Course as courses
 use Rattle.mq_outside.specs.Outside.{FilesState, Held, Holds, Rose, SinkState, Tells, appended}
@@ -109,24 +109,17 @@ module _ (words : Words) (files new_files : FilesState) (status : ℕ) (text : L
   tells : SaysWords words files new_files status text
   tells = told_words words files new_files status text say
 
-  -- the text was said, or the status is 4 or 6
-  pub said_or : ((result ≡ status) × (new.contents ≡ appended old.contents text) × (new.faults ≡ old.faults)) ⊎ ((result ≡ 4) ⊎ (result ≡ 6))
-  said_or = elim ends [
-    | inl e ↦ inl e
-    | inr other ↦ elim other [ inl e ↦ inr (inl e.0) | inr e ↦ inr (four-or-six (nat_eq status 4) result e.0) ]
-  ]
-
   pub status_told : IsStatus result
-  status_told = elim said_or [ inl e ↦ subst IsStatus (sym e.0) tells.is | inr e ↦ as_status result e ]
+  status_told = elim (said_or status text result old new ends) [ inl e ↦ subst IsStatus (sym e.0) tells.is | inr e ↦ as_status result e ]
 
   pub said_told : result ≢ 4 → result ≢ 6 → IsSaid words files new_files old new result
-  said_told not_four not_six = elim said_or [
+  said_told not_four not_six = elim (said_or status text result old new ends) [
     | inl e ↦ (text, subst (λ (s : ℕ). IsToSay words files new_files s text) (sym e.0) say, e.1)
     | inr e ↦ elim e [ inl four ↦ absurd (not_four four) | inr six ↦ absurd (not_six six) ]
   ]
 
   pub usage_told : result ≡ 1 → AreUnknown words × (new.contents ≡ appended old.contents usage_text) × (new_files ≡ files)
-  usage_told one = elim said_or [
+  usage_told one = elim (said_or status text result old new ends) [
     | inl e ↦ (let t = tells.usage (sym e.0 ∙ one) in (t.0, e.1 ∙ ap (appended old.contents) t.1, t.2))
     | inr e ↦ elim e [ inl four ↦ absurd (omega (arith, four, one)) | inr six ↦ absurd (omega (arith, six, one)) ]
   ]
@@ -148,7 +141,7 @@ module _ (words : Words) (files new_files : FilesState) (status : ℕ) (text : L
   misread-by version is out bad = absurd bad
 
   pub misread_told : result ≡ 2 → IsMisreadFile words files old new
-  misread_told two = elim said_or [
+  misread_told two = elim (said_or status text result old new ends) [
     | inl e ↦ (let t = tells.misread (sym e.0 ∙ two) in misread-by t.0 t.1 e.1 t.2)
     | inr e ↦ elim e [ inl four ↦ absurd (omega (arith, four, two)) | inr six ↦ absurd (omega (arith, six, two)) ]
   ]
@@ -173,7 +166,7 @@ module _ (words : Words) (files new_files : FilesState) (status : ℕ) (text : L
   ]
 
   pub takes_told : result ≢ 4 → result ≢ 6 → TakesFor words files new_files
-  takes_told not_four not_six = elim said_or [
+  takes_told not_four not_six = elim (said_or status text result old new ends) [
     | inl e ↦ tells.takes (λ four. not_four (e.0 ∙ four)) (λ six. not_six (e.0 ∙ six))
     | inr e ↦ elim e [ inl four ↦ absurd (not_four four) | inr six ↦ absurd (not_six six) ]
   ]
@@ -181,18 +174,10 @@ module _ (words : Words) (files new_files : FilesState) (status : ℕ) (text : L
   pub names_told : KeepsNames words files new_files
   names_told = tells.names
 
-  low : (result ≡ 1) ⊎ ((result ≡ 2) ⊎ (result ≡ 3)) → (result ≡ 4) ⊎ (result ≡ 6) → ⊥
-  low (inl one) (inl four) = omega (arith, one, four)
-  low (inl one) (inr six) = omega (arith, one, six)
-  low (inr (inl two)) (inl four) = omega (arith, two, four)
-  low (inr (inl two)) (inr six) = omega (arith, two, six)
-  low (inr (inr three)) (inl four) = omega (arith, three, four)
-  low (inr (inr three)) (inr six) = omega (arith, three, six)
-
   pub contents_told : (result ≡ 1) ⊎ ((result ≡ 2) ⊎ (result ≡ 3)) → new_files.contents ≡ files.contents
-  contents_told some = elim said_or [
+  contents_told some = elim (said_or status text result old new ends) [
     | inl e ↦ tells.low (subst (λ (s : ℕ). (s ≡ 1) ⊎ ((s ≡ 2) ⊎ (s ≡ 3))) e.0 some)
-    | inr e ↦ absurd (low some e)
+    | inr e ↦ absurd (low_failed result some e)
   ]
 
   -- where the words are no command
@@ -200,10 +185,6 @@ module _ (words : Words) (files new_files : FilesState) (status : ℕ) (text : L
   usage-where none = usage_by words files new_files result status text none say (unless_wanting status text result old new ends)
 
 -- ---- status 0
-
-not-saved-zero : (name : List ℕ) (old new : FilesState) (status : ℕ) (text : List ℕ) → IsNotSaved name old new status text → status ≡ 0 → ⊥
-not-saved-zero name old new _ _ (save_failed other rose taken tried) zero = omega (arith, zero)
-not-saved-zero name old new _ _ (save_memory same faults taken tried) zero = omega (arith, zero)
 
 made-by : (image : List ℕ) (files new_files : FilesState) (old new : SinkState) (status : ℕ) (text : List ℕ) → Makes image files new_files status text → status ≡ 0 → new.contents ≡ appended old.contents text → HasMade image files new_files old new
 made-by image files new_files old new _ _ (made bytes is save) zero out = record { bytes = bytes; file = is; saved = save; said = out }
@@ -215,11 +196,6 @@ abbrev DoneOf : Asked → (files new_files : FilesState) → (old new : SinkStat
 DoneOf (make image) files new_files old new = HasMade image files new_files old new
 DoneOf (apply image file options) files new_files old new = HasApplied image file options files new_files old new
 DoneOf _ files new_files old new = Unit {0}
-
-not-loaded-zero : (name : List ℕ) (old new : FilesState) (status : ℕ) (text : List ℕ) → IsNotLoaded name old new status text → status ≡ 0 → ⊥
-not-loaded-zero name old new _ _ (load_failed same rose tried) zero = omega (arith, zero)
-not-loaded-zero name old new _ _ (load_too_long same over faults takes tried) zero = omega (arith, zero)
-not-loaded-zero name old new _ _ (load_memory same faults tried) zero = omega (arith, zero)
 
 -- what a name gives, a file and a run that are refused don't end with 0
 name-zero : (image : List ℕ) (old new : FilesState) (status : ℕ) (text : List ℕ) → RefusesName image old new status text → status ≡ 0 → ⊥
@@ -259,7 +235,7 @@ done-words words files new_files a old new status text asks (of_command b is say
 done-words words files new_files a old new _ _ asks (no_memory same) zero out = absurd (omega (arith, zero))
 
 pub done_told : (words : Words) (files new_files : FilesState) (a : Asked) (old new : SinkState) (status : ℕ) (text : List ℕ) (result : ℕ) → asked_of words ≡ Some a → IsToSay words files new_files status text → EndsWith status text result old new → result ≡ 0 → DoneOf a files new_files old new
-done_told words files new_files a old new status text result asks say ends zero = elim (said_or words files new_files status text result old new say ends) [
+done_told words files new_files a old new status text result asks say ends zero = elim (said_or status text result old new ends) [
   | inl e ↦ done-words words files new_files a old new status text asks say (sym e.0 ∙ zero) e.1
   | inr e ↦ elim e [ inl four ↦ absurd (omega (arith, four, zero)) | inr six ↦ absurd (omega (arith, six, zero)) ]
 ]
@@ -376,7 +352,7 @@ module _ (held : Held) (files : FilesState) (is : files.contents ≡ Some held) 
   covers-words words a new _ _ asks (no_memory same) = inr (inr refl)
 
   pub covered_told : (words : Words) (a : Asked) (new_files : FilesState) (status : ℕ) (text : List ℕ) (result : ℕ) (old new : SinkState) → asked_of words ≡ Some a → IsToSay words files new_files status text → EndsWith status text result old new → Covers a result
-  covered_told words a new_files status text result old new asks say ends = elim (said_or words files new_files status text result old new say ends) [
+  covered_told words a new_files status text result old new asks say ends = elim (said_or status text result old new ends) [
     | inl e ↦ subst (Covers a) (sym e.0) (covers-words words a new_files status text asks say)
     | inr e ↦ inr e
   ]

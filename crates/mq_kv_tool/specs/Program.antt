@@ -1,6 +1,6 @@
 -- What the program says to words, and what its status reports.
 use Rattle.std.specs.Prelude.{◌≡◌, ◌⊎◌, ◌≤◌, ℕ, ◌+◌, ◌*◌, false, List, [], ◌∷◌, length, All, Option, Some, None, bytes_eq}
-use Rattle.mq_command_io.specs.Ending.{IsLoaded, TakesOver, memory_line}
+use Rattle.mq_command_io.specs.Ending.{IsLoaded, TakesOver, memory_line, HoldsTooMuch, TakesUpTo, KeepsOthers}
 use Rattle.mq_kv_cli.specs.Asked.{Asked, apply, asked_of, help, make, version}
 use Rattle.mq_cli.specs.Asked.{Words}
 use Rattle.mq_kv_text.specs.Reports.{usage_text}
@@ -53,31 +53,12 @@ abbrev pub saved_by : Option Asked → List (List ℕ)
 saved_by None = []
 saved_by (Some a) = saved_names a
 
--- After the names before it were loaded, one of these names holds more bytes than one load gives, and the
--- load of this name took more.
-abbrev pub HoldsTooMuch : List (List ℕ) → (old new : FilesState) → Type 0
-HoldsTooMuch [] old new = ⊥
-HoldsTooMuch (name ∷ names) old new =
-    (HoldsOver old.contents name × TakesOver old.taken new.taken)
-    ⊎ ((bytes : List ℕ) × (mid : FilesState) × IsLoaded name bytes old mid × HoldsTooMuch names mid new)
-
 abbrev pub IsTooLong : Words → (old new : FilesState) → Type 0
 IsTooLong words old new = HoldsTooMuch (loaded_by (asked_of words)) old new
 
 -- the loads took at most what one load for each name that is loaded gives
-abbrev pub TakesUpTo : (loads : ℕ) → (old new : ℕ) → Type 0
-TakesUpTo loads old new = (old ≤ new) × (new ≤ old + loads * load_limit)
-
 abbrev pub TakesFor : Words → (old new : FilesState) → Type 0
 TakesFor words old new = TakesUpTo (length (loaded_by (asked_of words))) old.taken new.taken
-
--- what each name holds that is none of these is as before
-abbrev pub KeepsOthers : (names : List (List ℕ)) → (old new : Option Held) → Type 0
-KeepsOthers names None None = Unit {0}
-KeepsOthers names None (Some new) = ⊥
-KeepsOthers names (Some old) None = ⊥
-KeepsOthers names (Some old) (Some new) =
-    (other : List ℕ) → All (λ name. bytes_eq other name ≡ false) names → new other ≡ old other
 
 -- no name changes but the image that is saved
 abbrev pub KeepsNames : Words → (old new : FilesState) → Type 0

@@ -1,6 +1,7 @@
 -- What there is to say of what words ask, and with which status.
 use Rattle.std.specs.Prelude.{◌≡◌, ℕ, List}
 use Rattle.std.specs.Option.{unwrap_or}
+use Rattle.mq_command_io.specs.Ending.{SaysOnly}
 use Rattle.mq_kv_cli.specs.Asked.{Asked, apply, help, make, version}
 use Rattle.mq_kv_cli.specs.Help.{help_text, version_line}
 use Rattle.mq_kv_cli.specs.declared.command.ApplyOptions.{ApplyOptions}
@@ -8,10 +9,6 @@ use Rattle.mq_kv_run.specs.declared.options.KvOptions.{KvOptions}
 use Rattle.mq_kv_tool.specs.Applies.{Applies}
 use Rattle.mq_kv_tool.specs.Makes.{Makes}
 use Rattle.mq_outside.specs.Outside.{FilesState}
-
--- this text, and no file is looked at
-pub data SaysOnly (line : List ℕ) (old new : FilesState) : (status : ℕ) → (text : List ℕ) → Type 0 where
-  said : new ≡ old → SaysOnly line old new 0 line
 
 -- draws come from 0 where no pick is given
 abbrev pub kv_options : ApplyOptions → KvOptions

@@ -17,16 +17,6 @@ use Rattle.mq_loose_text.specs.Meaning.{freed_from}
 
 -- ---- what a loop over the blocks has so far
 
-pub writes_none : (f : Fill) (b : ℕ) (so_far all : Writes) → b < 256 → f b ≡ None → all ≡ so_far ++ writes_from f b (named - b) → all ≡ so_far ++ writes_from f (b + 1) (named - (b + 1))
-writes_none f b so_far all less none is =
-    is ∙ ap (λ (ws : Writes). so_far ++ ws) (writes_at f named b (omega (arith, named_is)) ∙ ap (λ (o : Option ℕ). with_write b o (writes_from f (b + 1) (named - (b + 1)))) none)
-
-pub writes_some : (f : Fill) (b v : ℕ) (so_far all : Writes) → b < 256 → f b ≡ Some v → all ≡ so_far ++ writes_from f b (named - b)
-    → all ≡ (so_far ++ (b, filled v) ∷ []) ++ writes_from f (b + 1) (named - (b + 1))
-writes_some f b v so_far all less some is =
-    is ∙ ap (λ (ws : Writes). so_far ++ ws) (writes_at f named b (omega (arith, named_is)) ∙ ap (λ (o : Option ℕ). with_write b o (writes_from f (b + 1) (named - (b + 1)))) some)
-    ∙ sym (append_assoc so_far ((b, filled v) ∷ []) (writes_from f (b + 1) (named - (b + 1))))
-
 dropped_at : (before after : List Bool) (b : ℕ) → b < 256
     → dropped_from before after b (named - b) ≡ cond (is_dropped before after b) (b ∷ dropped_from before after (b + 1) (named - (b + 1))) (dropped_from before after (b + 1) (named - (b + 1)))
 dropped_at before after b less = ap (dropped_from before after b) (let e : named - b ≡ suc (named - (b + 1)) = omega (arith, named_is) in e)

@@ -25,6 +25,7 @@ use Rattle.mq_loose_text.specs.Text.{queue_count}
 use Rattle.mq_loose_text.specs.declared.line.LooseLine.{LooseLine}
 use Rattle.mq_loose_text.specs.declared.line.LooseLine.TheVariants.{Commit, Done}
 use Rattle.mq_queue_side.specs.Stored.{next_in, rows_for}
+use Rattle.mq_command_blocks.proofs.ItemsWrites.{rising_from}
 use Rattle.mq_loose_run.specs.Lines.{HasRun}
 use Rattle.mq_loose_run.specs.Runs.{IsRunGeometry}
 use Rattle.mq_loose_run.specs.Steps.{IsNext}
@@ -32,14 +33,6 @@ use Rattle.mq_loose_run.proofs.AllSides.{base_is, bell_end, none_pending, own_qu
 use Rattle.mq_loose_run.proofs.Counts.{part, rung_few, rung_next, waits_rung}
 
 -- ---- the lists rise
-
-rising_one : (low high b : ℕ) (o : Option ℕ) (ws : Writes) → low ≤ b → b < high → ((m : ℕ) → m ≤ b + 1 → AreRising m high (blocks_of ws)) → AreRising low high (blocks_of (with_write b o ws))
-rising_one low high b None ws from below rest = rest low (omega arith)
-rising_one low high b (Some v) ws from below rest = (from, below, rest (b + 1) (omega arith))
-
-rising_writes : (f : Fill) (b n low high : ℕ) → low ≤ b → b + n ≤ high → AreRising low high (blocks_of (writes_from f b n))
-rising_writes f b zero low high from below = tt
-rising_writes f b (suc n) low high from below = rising_one low high b (f b) (writes_from f (b + 1) n) from (omega arith) (λ m at. rising_writes f (b + 1) n m high at (omega arith))
 
 freed_one : (low high b : ℕ) (t : Bool) (bs : List ℕ) → low ≤ b → b < high → ((m : ℕ) → m ≤ b + 1 → AreRising m high bs) → AreRising low high (cond t (b ∷ bs) bs)
 freed_one low high b true bs from below rest = (from, below, rest (b + 1) (omega arith))
@@ -188,7 +181,7 @@ module _ (fuse : FuseName) (start : State) (lines : List LooseLine) (n q : ℕ) 
   pub request : IsRequest v q ws frees
   request = record {
     queue = (let e = ap (λ (g : Geometry). g.queues) r.drawn.journal.geometry in let o = own_queue fuse start lines n v r q low in omega (arith, e, o));
-    writes = subst (λ (us : Writes). AreRising 0 (homes_of v.geometry) (blocks_of us)) (sym ws_are) (rising_writes (set_in is) 0 named 0 (homes_of v.geometry) (omega arith) (omega (arith, homes, named_is)));
+    writes = subst (λ (us : Writes). AreRising 0 (homes_of v.geometry) (blocks_of us)) (sym ws_are) (rising_from (set_in is) 0 named 0 (homes_of v.geometry) (omega arith) (omega (arith, homes, named_is)));
     frees_rise = subst (AreRising 0 (homes_of v.geometry)) (sym frees_are) (rising_freed m is 0 named 0 (homes_of v.geometry) (omega arith) (omega (arith, homes, named_is)));
     apart = apart_all frees (blocks_of ws) (λ x among written. (written_set (set_in is) 0 named x (ap (λ (us : Writes). is_among x (blocks_of us)) (sym ws_are) ∙ written)).1 (freed_unset is x good (freed_is m is 0 named x (ap (is_among x) (sym frees_are) ∙ among)).1));
     there = λ x among.

@@ -20,6 +20,7 @@ use Rattle.mq_image.specs.File.{DriveImage, queue_ports, root_port}
 use Rattle.mq_image_ops.specs.Empty.{IsBlankDrive}
 use Rattle.mq_image_ops.specs.Starts.{AreStarted, IsFreshPort}
 use Rattle.mq_image_ops.specs.Views.{port_from, view_of}
+use Rattle.mq_image_ops.proofs.Unwritten.{IsUnwritten, whole_none}
 use Rattle.mq_image_ops.proofs.Views.{queue-in, start-queue, start-view, still-under}
 use Rattle.mq_ledger.proofs.Written.{entries_read}
 use Rattle.mq_ledger.specs.State.{IsStart, IsStartPort, State, from_at, no_port, port_at}
@@ -45,38 +46,6 @@ use Rattle.mq_loose_run.proofs.Counts.{queue_is}
 
 -- ---- an image on which nothing was written
 
-record IsUnwritten (g : Geometry) (i : Shown) : Type 0 where
-  form : i.form ≡ journal_form
-  base : i.base ≡ 0
-  head : (q : ℕ) → q < g.queues → i.head q ≡ 0
-  doorbell : (q : ℕ) → q < g.queues → i.doorbell q ≡ 0
-
-whole_none : (g : Geometry) (i : Shown) → IsUnwritten g i → AreWhole g i (λ q. [])
-whole_none g i un = record {
-  limit = (let e = un.base in omega (arith, e));
-  each = λ q low. (
-      let head = un.head q low in
-      let doorbell = un.doorbell q low in
-      record {
-        number = 0;
-        lba = 0;
-        place = 0;
-        order = omega (arith, head, doorbell);
-        few = omega (arith, head, doorbell);
-        low = omega (arith, doorbell);
-        none = λ e. refl;
-        newest = λ some. absurd (omega (arith, some, head));
-        limit = omega arith;
-        own = λ less. absurd (omega (arith, less));
-        chain = omega arith;
-        reach = tt;
-        rung = λ c from to. absurd (omega (arith, to, doorbell));
-        rung_whole = λ less. absurd (omega (arith, less, doorbell));
-      }
-      );
-  once = λ q r low lower other d e has. absurd has;
-}
-
 top_none : (g : Geometry) (i : Shown) → IsUnwritten g i → (n : ℕ) → ShowsNumber g i (λ q. []) n → n ≤ 0
 top_none g i un n shows = elim shows.where_from [
   | inl at ↦ (let e = un.base in omega (arith, at, e))
@@ -86,9 +55,9 @@ top_none g i un n shows = elim shows.where_from [
   ]
 ]
 
-read_none : (g : Geometry) (i : Shown) → IsUnwritten g i → IsReadPrefix g i [] 0
-read_none g i un = record {
-  form_is = un.form;
+read_none : (g : Geometry) (i : Shown) → i.form ≡ journal_form → IsUnwritten g i → IsReadPrefix g i [] 0
+read_none g i form un = record {
+  form_is = form;
   chains = λ q. [];
   whole = whole_none g i un;
   prefix = record { row = tt; whole = λ d has. absurd has; greatest = λ q d low has. absurd has };
@@ -173,7 +142,6 @@ module _ (g : Geometry) (is : IsRunGeometry g) (f : FuseName) (x : DriveImage) (
 
   unwritten : IsUnwritten g (view_of x)
   unwritten = record {
-    form = refl;
     base = ap (λ (h : Geometry). (get_or x.ports (queues_of h) no_image).base) same ∙ (blank.unused (queues_of g) (omega arith)).base;
     head = λ q low. ap (λ (i : PortImage). i.head) (own q low) ∙ (blank.unused q (omega (arith, low))).head;
     doorbell = λ q low. ap (λ (i : PortImage). i.doorbell) (own q low) ∙ (blank.unused q (omega (arith, low))).doorbell;
@@ -198,7 +166,7 @@ module _ (g : Geometry) (is : IsRunGeometry g) (f : FuseName) (x : DriveImage) (
   root_base = ap (λ (p : PortState). p.base) root_from ∙ unwritten.base
 
   start_drive : IsStartDrive g d
-  start_drive = starts g d 0 still (λ q low. head q low ∙ sym (bell q low)) (subst (λ (i : Shown). IsReadPrefix g i [] 0) (sym view_is) (read_none g (view_of x) unwritten)) root_base
+  start_drive = starts g d 0 still (λ q low. head q low ∙ sym (bell q low)) (subst (λ (i : Shown). IsReadPrefix g i [] 0) (sym view_is) (read_none g (view_of x) refl unwritten)) root_base
 
   -- each home block is of zeros
   home_none : (b : ℕ) (z : Option ℕ) → b < homes_of x.geometry → zone_of x.geometry b ≡ z → home_block x.geometry (queue_ports x) (root_port x) b z ≡ zeros

@@ -8,7 +8,7 @@ ghost use Rattle.mq_loose_run.specs.Items.{AreItems};
 use mq_block_text::BlockLine;
 use mq_block_trace::{NAMED, fills_of, mark_line};
 use mq_blocks::{Block, BlockNo, OutOfMemory};
-use mq_command_blocks::filled;
+use mq_command_blocks::filled_writes;
 use std::alloc::Global;
 
 /// What a commit's line does with the blocks.
@@ -18,21 +18,6 @@ pub struct Items {
     pub frees: Vec<BlockNo>,
     /// Of each block that texts may name, whether it is in the map after the line.
     pub marks: Vec<bool>,
-}
-
-// The blocks that are filled, each with its content.
-fn filled_writes(alloc: Global, fills: &[Option<u8>]) -> Result<Vec<(BlockNo, Block)>, OutOfMemory>
-    requires { length fills.now ≡ 256 }
-    ensures { IfOk result (λ v. v.items ≡ writes_from (λ b. slice_index_or fills.now b None) 0 named) }
-{
-    let mut writes = Vec::new(alloc);
-    for b in 0..NAMED {
-        match fills[b] {
-            None => {}
-            Some(byte) => writes.push((BlockNo(b as u32), filled(alloc, byte)?))?,
-        }
-    }
-    Ok(writes)
 }
 
 // The blocks that are in the map by the first marks and aren't by the second.

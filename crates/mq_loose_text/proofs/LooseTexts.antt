@@ -8,7 +8,7 @@ use Rattle.std.proofs.lemmas.List.Splits.{join_with_byte-slice_split}
 use Rattle.mq_block_text.specs.Refusals.{ended, IsPart}
 use Rattle.mq_block_text.proofs.TextFirst.{AreGoodAfter, same_first}
 use Rattle.mq_block_text.proofs.TextParts.{part_of_split, split_ended, split_of_join, split_part, split_some}
-use Rattle.mq_block_text.proofs.TextWhole.{IsBody}
+use Rattle.mq_block_text.proofs.TextWhole.{IsBody, body_part, body_there}
 use Rattle.mq_loose_text.specs.Text.{IsGoodText, IsLooseText, IsRefusal, IsRefused, IsTextOf, RefusesLines, RefusesText, line_text, text_of}
 use Rattle.mq_loose_text.specs.declared.line.LooseLine.{LooseLine}
 use Rattle.mq_loose_text.specs.declared.refusal.LooseTextRefusal.{LooseTextRefusal}
@@ -127,39 +127,6 @@ pub text_of_lines : (bytes body : List ℕ) (lines : List LooseLine) → IsBody 
 text_of_lines bytes body [] b e = absurd (split_some (λ b. eqb b 10) body e)
 text_of_lines bytes body (l ∷ lines) b e = joined bytes body l lines b (sym (join_with_byte-slice_split 10 body) ∙ ap (join_with_byte 10) e)
 
--- a part of the body is one of the text
-body_part : (bytes body front part : List ℕ) → IsBody bytes body → IsPart 10 body front part → IsPart 10 bytes front part
-body_part bytes body front part (inr b) is = record {
-  rest = is.rest;
-  stands = elim is.stands [ inl e ↦ inl (b.0 ∙ e) | inr e ↦ inr (b.0 ∙ e) ];
-  plain = is.plain;
-}
-body_part bytes body front part (inl b) is = elim is.stands [
-  | inl e ↦ record {
-    rest = [];
-    stands = inr (b ∙ ap (λ t. t ++ 10 ∷ []) e ∙ append_assoc front part (10 ∷ []));
-    plain = is.plain;
-  }
-  | inr e ↦ record {
-    rest = is.rest ++ 10 ∷ [];
-    stands =
-        inr (b ∙ ap (λ t. t ++ 10 ∷ []) e ∙ append_assoc front (part ++ 10 ∷ is.rest) (10 ∷ [])
-        ∙ ap (λ t. front ++ t) (append_assoc part (10 ∷ is.rest) (10 ∷ [])));
-    plain = is.plain;
-  }
-]
-
--- a part of the body is there
-body_there : (bytes body : List ℕ) (before : List LooseLine) (part : List ℕ) → IsBody bytes body → 0 < length bytes → IsPart 10 body (text_of before) part → bytes ≢ text_of before
-body_there bytes body before part (inl b) some is same =
-    let whole : length (text_of before) ≡ length body + 1 = ap length (sym same ∙ b) ∙ length-append body (10 ∷ []) in
-    elim is.stands [
-      | inl e ↦ (let long : length body ≡ length (text_of before) + length part = ap length e ∙ length-append (text_of before) part in omega arith)
-      | inr e ↦ (let long : length body ≡ length (text_of before) + length (part ++ 10 ∷ is.rest) = ap length e ∙ length-append (text_of before) (part ++ 10 ∷ is.rest) in omega arith)
-    ]
-body_there bytes body [] part (inr b) some is same = let none : length bytes ≡ 0 = ap length same in omega arith
-body_there bytes body (l ∷ before) part (inr b) some is same = b.1 (join_with_byte 10 (map line_text (l ∷ before))) (same ∙ join_lines l before)
-
 -- what is refused of the lines of the body is refused of the text
 pub refused_of_lines : (bytes body : List ℕ) (number : ℕ) → IsBody bytes body → 0 < length bytes → RefusesLines (slice_split (λ b. eqb b 10) body) number → RefusesText bytes number
 refused_of_lines bytes body number b some bad =
@@ -170,7 +137,7 @@ refused_of_lines bytes body number b some bad =
       text = bad.text;
       good = bad.good;
       part = body_part bytes body (text_of bad.before) bad.text b part;
-      there = body_there bytes body bad.before bad.text b some part;
+      there = body_there text_of line_text refl join_lines bytes body bad.before bad.text b some part;
       counted = bad.counted;
       refused = bad.refused;
     }

@@ -2,7 +2,6 @@
 //! off stands in `specs/Meaning.antt`.
 #![tactic(auto)]
 
-mod feed;
 mod line;
 mod places;
 mod print;

@@ -1,8 +1,9 @@
 // What a run of a text of the loose order prints.
-ghost use Rattle.std.specs.Prelude.{◌≡◌, ◌++◌, ◌∷◌, [], IfOk, string_bytes};
-ghost use Rattle.mq_block_text.specs.Text.{hex_text, number_text};
+ghost use Rattle.std.specs.Prelude.{◌≡◌, ◌∷◌, IfOk, string_bytes};
+ghost use Rattle.mq_block_text.specs.Text.{number_text};
 ghost use Rattle.mq_loose_text.specs.Text.{numbers_text, printed, refused_line};
 
+use mq_block_text::block_line;
 use mq_blocks::{BlockNo, OutOfMemory, TxNo};
 use std::alloc::{AllocError, Global};
 
@@ -23,12 +24,6 @@ fn print_numbers(alloc: Global, numbers: &[TxNo]) -> Result<Vec<u8>, OutOfMemory
         text.extend_from_slice(print_number(alloc, *number)?.as_bytes())?;
     }
     Ok(text)
-}
-
-fn block_line(alloc: Global, block: u32, byte: u8) -> Result<String, AllocError>
-    ensures { IfOk result (λ s. string_bytes s ≡ number_text block ++ 32 ∷ hex_text byte ++ 10 ∷ []) }
-{
-    format!(in alloc; "{block} {byte:02x}\n")
 }
 
 /// The line that says which line of a text is refused.

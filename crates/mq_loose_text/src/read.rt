@@ -5,9 +5,10 @@ ghost use Rattle.mq_block_text.specs.declared.item.BlockItem.{BlockItem};
 ghost use Rattle.mq_loose_text.specs.Text.{IsGoodLine, line_text, queue_count};
 ghost use Rattle.mq_loose_text.specs.declared.line.LooseLine as spelled;
 
-use crate::feed::without_last_line_feed;
 use crate::line::LooseLine;
-use mq_block_text::{BlockLine, BlockText, BlockTextRefusal, read_block_text};
+use mq_block_text::{
+    BlockLine, BlockText, BlockTextRefusal, read_block_text, without_last_line_feed,
+};
 use mq_blocks::{OutOfMemory, QueueNo};
 use std::alloc::Global;
 

@@ -3,12 +3,11 @@ ghost use Rattle.std.specs.Prelude.{◌≡◌, ℕ, List, IfErr, IfOk, MatchResu
 ghost use Rattle.mq_loose_text.specs.Text.{IsGoodText, IsLooseText, IsRefusal, IsRefused, RefusesLines, RefusesText, line_text};
 ghost use Rattle.mq_loose_text.specs.declared.line.LooseLine as spelled;
 
-use crate::feed::without_last_line_feed;
 use crate::line::{LooseLine, LooseText};
 use crate::places::room_behind;
 use crate::read::read_loose_line;
 use crate::refusal::LooseTextRefusal;
-use mq_block_text::cut_at;
+use mq_block_text::{cut_at, without_last_line_feed};
 use std::alloc::Global;
 
 /// The blocks of each queue's journal area, which the commits on the queue must fit.

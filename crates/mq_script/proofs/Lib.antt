@@ -6,6 +6,5 @@ pub mod Scripts
 pub mod Spelled
 pub mod WordsCutting
 pub mod WordsData
-pub mod WordsDigits
 pub mod WordsPaths
 pub mod Workloads

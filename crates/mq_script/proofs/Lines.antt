@@ -3,9 +3,9 @@ use Rattle.std.proofs.Common.{◌≡◌, ℕ, Bool, true, cond, List, [], ◌∷
 use Rattle.std.specs.Prelude.{Err}
 use Rattle.std.specs.List.{list_all}
 use Rattle.mq_block_text.proofs.TextParts.{split_some}
-use Rattle.mq_script.specs.Lines.{an_end, is_plain, line_in, verb_line, words_line}
+use Rattle.mq_block_text.specs.Words.{is_plain, words_of}
+use Rattle.mq_script.specs.Lines.{an_end, line_in, verb_line, words_line}
 use Rattle.mq_script.specs.Verbs.{verb_in}
-use Rattle.mq_script.specs.Words.{words_of}
 use Rattle.mq_script.specs.declared.group.End.{End}
 use Rattle.mq_script.specs.declared.refusal.ScriptCause.TheVariants.{Arguments, Bytes}
 use Rattle.mq_script.proofs.WordsCutting.{is_space}

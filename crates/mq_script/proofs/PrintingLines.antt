@@ -1,49 +1,38 @@
 -- Printed lines are read again.
-use Rattle.std.proofs.Common.{◌≡◌, ℕ, suc, Bool, true, false, eqb, cond, Some, ◌/◌, ◌%◌, ◌^◌, ◌<◌, ◌≤◌, List, [], ◌∷◌, ◌++◌, length, get_or, ◌∙◌, ap, refl, arith, append_assoc}
-use Rattle.std.specs.Prelude.{◌&&◌, nat_le, codes, decimal, Ok}
+use Rattle.std.proofs.Common.{◌≡◌, ℕ, Bool, true, false, cond, Some, ◌/◌, ◌%◌, ◌^◌, ◌<◌, List, [], ◌∷◌, ◌++◌, ◌∙◌, ap, refl, arith, append_assoc, suc, eqb, ◌≤◌, length, get_or}
+use Rattle.std.specs.Prelude.{◌&&◌, codes, decimal, Ok}
 use Rattle.std.specs.List.{AllByRecursion, list_all}
 use Rattle.std.specs.Option.{ok_or}
-use Rattle.std.proofs.lemmas.Bool.{le-leb, and_from}
+use Rattle.std.proofs.lemmas.Bool.{and_from}
 use Rattle.std.proofs.lemmas.List.Splits.{slice_split_none, slice_split_at}
 use Rattle.mq_block_text.specs.Text.{hex_digit}
-use Rattle.mq_block_text.proofs.TextNumbers.{numeral_of}
+use Rattle.mq_block_text.specs.Words.{is_plain, is_visible, words_of, number_in}
+use Rattle.mq_block_text.proofs.WordsDigits.{number_again}
+use Rattle.mq_block_text.proofs.WordsLines.{weaker, joined, avoids, number_visible, plain_of, visible_space}
 use Rattle.mq_tree.specs.declared.request.Request.{Request}
 use Rattle.mq_tree.specs.declared.request.Request.TheVariants.{Mkdir as make_mkdir, Create as make_create, Write as make_write, Truncate as make_truncate, Unlink as make_unlink, Rmdir as make_rmdir, Rename as make_rename, Link as make_link, Read as make_read, List as make_list, Stat as make_stat}
 use Rattle.mq_tree.specs.Listings.{names_text, path_text}
 use Rattle.mq_script.specs.Answers.{and_then, made}
 use Rattle.mq_script.specs.Grammar.{is_letter, IsPath, IsRequest, AreBytes}
-use Rattle.mq_script.specs.Lines.{a_path, is_plain, line_in, verb_line, arguments_in}
+use Rattle.mq_script.specs.Lines.{a_path, line_in, verb_line, arguments_in}
 use Rattle.mq_script.specs.Printing.{pairs_text, is_quotable, data_text, request_text}
 use Rattle.mq_script.specs.Verbs.{verb_in}
-use Rattle.mq_script.specs.Words.{words_of, number_in, path_in, data_in}
+use Rattle.mq_script.specs.Words.{path_in, data_in}
 use Rattle.mq_script.specs.declared.line.Line.TheVariants.{Asks}
 use Rattle.mq_script.specs.declared.refusal.ScriptCause.TheVariants.{Arguments, Path, Number, Data}
 use Rattle.mq_script.specs.declared.verb.Verb.{Verb}
 use Rattle.mq_script.specs.declared.verb.Verb.TheVariants.{Mkdir, Create, Write, Truncate, Unlink, Rmdir, Rename, Link, Read, List as ListOf, Stat}
 use Rattle.mq_script.proofs.WordsCutting.{is_space, rest_of_three}
-use Rattle.mq_script.proofs.WordsDigits.{number_again}
 use Rattle.mq_script.proofs.Lines.{line_plain}
-use Rattle.mq_script.proofs.PrintingWords.{weaker, joined, avoids, path_again, data_again}
+use Rattle.mq_script.proofs.PrintingWords.{path_again, data_again}
 
 -- ---- the bytes of words
-
-abbrev pub is_visible : ℕ → Bool
-is_visible b = nat_le 33 b && nat_le b 126
-
-visible_plain : (b : ℕ) → is_visible b ≡ true → is_plain b ≡ true
-visible_plain b h = grind arith
-
-visible_space : (b : ℕ) → is_visible b ≡ true → eqb b 32 ≡ false
-visible_space b h = grind arith
 
 letter_visible : (b : ℕ) → is_letter b ≡ true → is_visible b ≡ true
 letter_visible b h = grind arith
 
 quotable_plain : (b : ℕ) → is_quotable b ≡ true → is_plain b ≡ true
 quotable_plain b h = grind arith
-
-pub plain_of : (text : List ℕ) → list_all is_visible text ≡ true → list_all is_plain text ≡ true
-plain_of text h = weaker is_visible is_plain visible_plain text h
 
 names_visible : (names : List (List ℕ)) → AllByRecursion (λ n. list_all is_letter n ≡ true) names → list_all is_visible (names_text names) ≡ true
 names_visible [] h = refl
@@ -52,16 +41,6 @@ names_visible (name ∷ names) h = joined is_visible name (names_text names) (we
 path_visible : (names : List (List ℕ)) → IsPath names → list_all is_visible (path_text names) ≡ true
 path_visible [] is = refl
 path_visible (name ∷ names) is = names_visible (name ∷ names) is.letters
-
-by_index : (p : ℕ → Bool) (xs : List ℕ) → ((k : ℕ) → k < length xs → p (get_or xs k 0) ≡ true) → list_all p xs ≡ true
-by_index p [] h = refl
-by_index p (x ∷ xs) h = and_from (p x) (list_all p xs) (h 0 (omega arith)) (by_index p xs (λ k l. h (suc k) (omega (arith, l))))
-
-digit_visible : (d : ℕ) → 48 ≤ d → d ≤ 57 → is_visible d ≡ true
-digit_visible d low high = and_from (nat_le 33 d) (nat_le d 126) (le-leb 33 d (omega (arith, low))) (le-leb d 126 (omega (arith, high)))
-
-pub number_visible : (n : ℕ) → n < 2 ^ 64 → list_all is_visible (decimal n) ≡ true
-number_visible n h = by_index is_visible (decimal n) (λ k l. let digit = (numeral_of (decimal n) n h refl).2 k l in digit_visible (get_or (decimal n) k 0) digit.0 digit.1)
 
 hex_plain : (d : ℕ) → d < 16 → is_plain (hex_digit d) ≡ true
 hex_plain d h = grind arith

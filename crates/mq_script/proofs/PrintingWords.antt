@@ -2,31 +2,17 @@
 use Rattle.std.proofs.Common.{◌≡◌, ◌≢◌, ℕ, Bool, true, false, eqb, cond, Some, ◌/◌, ◌%◌, List, [], ◌∷◌, ◌++◌, sym, ◌∙◌, ap, refl, arith, append-nil}
 use Rattle.std.specs.Prelude.{◌||◌, codes}
 use Rattle.std.specs.List.{AllByRecursion, list_all, list_any, slice_split}
-use Rattle.std.proofs.lemmas.List.Elements.{All-cons}
-use Rattle.std.proofs.lemmas.List.Folds.{list_all-append}
 use Rattle.std.proofs.lemmas.List.Splits.{slice_split_none, slice_split_at}
-use Rattle.std.proofs.lemmas.Bool.{and_from, and_parts}
+use Rattle.std.proofs.lemmas.Bool.{and_parts}
 use Rattle.mq_block_text.specs.Text.{hex_digit}
-use Rattle.mq_block_text.proofs.TextParts.{Avoids, avoids_none}
+use Rattle.mq_block_text.proofs.TextParts.{Avoids}
+use Rattle.mq_block_text.proofs.WordsDigits.{byte_written}
+use Rattle.mq_block_text.proofs.WordsLines.{avoids}
 use Rattle.mq_script.specs.Grammar.{is_letter, IsPath, AreBytes}
 use Rattle.mq_script.specs.Printing.{pairs_text, is_quotable, data_text}
 use Rattle.mq_script.specs.Words.{data_in, names_in, onto, pairs_in, path_in}
 use Rattle.mq_script.proofs.WordsData.{is_quote, quoted_whole}
-use Rattle.mq_script.proofs.WordsDigits.{byte_written}
 use Rattle.mq_tree.specs.Listings.{names_text, path_text}
-
--- ---- tests of all bytes
-
-pub weaker : (p q : ℕ → Bool) → ((b : ℕ) → p b ≡ true → q b ≡ true) → (xs : List ℕ) → list_all p xs ≡ true → list_all q xs ≡ true
-weaker p q f [] h = refl
-weaker p q f (x ∷ xs) h = and_from (q x) (list_all q xs) (f x (and_parts (p x) (list_all p xs) h).0) (weaker p q f xs (and_parts (p x) (list_all p xs) h).1)
-
-pub joined : (p : ℕ → Bool) (xs ys : List ℕ) → list_all p xs ≡ true → list_all p ys ≡ true → list_all p (xs ++ ys) ≡ true
-joined p xs ys a b = list_all-append p xs ys ∙ and_from (list_all p xs) (list_all p ys) a b
-
-pub avoids : (p : ℕ → Bool) (at : ℕ) → ((b : ℕ) → p b ≡ true → eqb b at ≡ false) → (xs : List ℕ) → list_all p xs ≡ true → Avoids at xs
-avoids p at f [] h = avoids_none at
-avoids p at f (x ∷ xs) h = All-cons (λ y. eqb y at ≡ false) x xs (f x (and_parts (p x) (list_all p xs) h).0) (avoids p at f xs (and_parts (p x) (list_all p xs) h).1)
 
 -- ---- paths
 

@@ -1,26 +1,26 @@
 -- Printed scripts are read again.
-use Rattle.std.proofs.Common.{◌≡◌, ℕ, true, false, eqb, cond, ◌+◌, ◌-◌, ◌^◌, ◌<◌, ◌≤◌, List, [], ◌∷◌, ◌++◌, length, take, drop, map, sym, ◌∙◌, ap, refl, arith, append_assoc, append-nil, length-append}
-use Rattle.std.specs.Prelude.{codes, decimal, bytes_eq, Ok}
-use Rattle.std.specs.List.{AllByRecursion, list_all, slice_split, join_with_byte}
-use Rattle.std.proofs.Math.Seq.{take-append_seam, drop-append_seam}
+use Rattle.std.proofs.Common.{◌≡◌, ℕ, true, ◌+◌, ◌-◌, ◌^◌, ◌<◌, ◌≤◌, List, [], ◌∷◌, ◌++◌, length, map, sym, ◌∙◌, ap, refl, append_assoc, append-nil, false, eqb, cond}
+use Rattle.std.specs.Prelude.{decimal, Ok}
+use Rattle.std.specs.List.{AllByRecursion, list_all}
 use Rattle.mq_block_text.specs.Refusals.{ended}
-use Rattle.mq_block_text.proofs.TextParts.{Avoids, split_of_join}
+use Rattle.mq_block_text.proofs.TextParts.{Avoids}
+use Rattle.mq_block_text.specs.Words.{is_plain, lines_of}
+use Rattle.mq_block_text.proofs.WordsLines.{joined, lines_again, no_feed, number_visible, plain_of}
 use Rattle.mq_tree.specs.declared.request.Request.{Request}
 use Rattle.mq_tree.specs.declared.request.Request.TheVariants.{Mkdir, Create, Write, Truncate, Unlink, Rmdir, Rename, Link, Read, List as ListOf, Stat}
 use Rattle.mq_tree.specs.Listings.{path_text}
 use Rattle.mq_script.specs.Answers.{made}
 use Rattle.mq_script.specs.Grammar.{IsRequest, IsGroup, IsScript}
-use Rattle.mq_script.specs.Lines.{is_plain, line_in}
+use Rattle.mq_script.specs.Lines.{line_in}
 use Rattle.mq_script.specs.Printing.{data_text, request_text, requests_text, end_text, groups_text, script_text}
-use Rattle.mq_script.specs.Reading.{groups_in, lines_of, script_in, without_line_feed}
+use Rattle.mq_script.specs.Reading.{groups_in, script_in}
 use Rattle.mq_script.specs.Scripts.{Group, Script}
 use Rattle.mq_script.specs.Spelled.{end_word}
 use Rattle.mq_script.specs.declared.group.End.{End}
 use Rattle.mq_script.specs.declared.group.End.TheVariants.{Fsync, Fatomic, Ask}
 use Rattle.mq_script.specs.declared.line.Line.TheVariants.{Ends}
 use Rattle.mq_script.proofs.Scripts.{script_of, script_small}
-use Rattle.mq_script.proofs.PrintingLines.{after_path, data_plain, line_again, number_visible, path_plain, plain_of}
-use Rattle.mq_script.proofs.PrintingWords.{avoids, joined}
+use Rattle.mq_script.proofs.PrintingLines.{after_path, data_plain, line_again, path_plain}
 
 -- ---- the lines of groups
 
@@ -50,12 +50,6 @@ text_of_lines (g ∷ groups) = group_text g.requests g.end (groups_lines groups)
 
 -- ---- no line has a line feed
 
-plain_feed : (b : ℕ) → is_plain b ≡ true → eqb b 10 ≡ false
-plain_feed b h = grind arith
-
-no_feed : (text : List ℕ) → list_all is_plain text ≡ true → Avoids 10 text
-no_feed text h = avoids is_plain 10 plain_feed text h
-
 number_plain : (n : ℕ) → n < 2 ^ 64 → list_all is_plain (decimal n) ≡ true
 number_plain n h = plain_of (decimal n) (number_visible n h)
 
@@ -84,31 +78,6 @@ group_feeds (r ∷ requests) end rest is more = (no_feed (request_text r) (reque
 groups_feeds : (groups : List Group) → AllByRecursion IsGroup groups → AllByRecursion (Avoids 10) (groups_lines groups)
 groups_feeds [] is = tt
 groups_feeds (g ∷ groups) is = group_feeds g.requests g.end (groups_lines groups) is.0 (groups_feeds groups is.1)
-
--- ---- lines that were ended are cut where they end
-
-pub ended_join : (line : List ℕ) (lines : List (List ℕ)) → ended 10 (line ∷ lines) ≡ join_with_byte 10 (line ∷ lines) ++ 10 ∷ []
-ended_join line [] = refl
-ended_join line (next ∷ lines) = ap (λ t. line ++ 10 ∷ t) (ended_join next lines) ∙ sym (append_assoc line (10 ∷ join_with_byte 10 (next ∷ lines)) (10 ∷ []))
-
-pub some_lines : (bytes : List ℕ) → 0 < length bytes → lines_of bytes ≡ slice_split (λ c. eqb c 10) (without_line_feed bytes)
-some_lines [] h = absurd (omega arith)
-some_lines (b ∷ bytes) h = refl
-
-front_of : (text : List ℕ) (n : ℕ) → n ≡ length text → cond (bytes_eq (drop n (text ++ 10 ∷ [])) (codes "\n")) (take n (text ++ 10 ∷ [])) (text ++ 10 ∷ []) ≡ text
-front_of text n e =
-    ap (λ (k : ℕ). cond (bytes_eq (drop k (text ++ 10 ∷ [])) (codes "\n")) (take k (text ++ 10 ∷ [])) (text ++ 10 ∷ [])) e
-    ∙ ap (λ (t : List ℕ). cond (bytes_eq t (codes "\n")) (take (length text) (text ++ 10 ∷ [])) (text ++ 10 ∷ [])) (drop-append_seam text (10 ∷ []))
-    ∙ take-append_seam text (10 ∷ [])
-
-lines_ended : (text : List ℕ) → lines_of (text ++ 10 ∷ []) ≡ slice_split (λ c. eqb c 10) text
-lines_ended text =
-    some_lines (text ++ 10 ∷ []) (omega (arith, length-append text (10 ∷ [])))
-    ∙ ap (slice_split (λ c. eqb c 10)) (front_of text (length (text ++ 10 ∷ []) - 1) (omega (arith, length-append text (10 ∷ []))))
-
-pub lines_again : (lines : List (List ℕ)) → AllByRecursion (Avoids 10) lines → lines_of (ended 10 lines) ≡ lines
-lines_again [] h = refl
-lines_again (line ∷ lines) h = ap lines_of (ended_join line lines) ∙ lines_ended (join_with_byte 10 (line ∷ lines)) ∙ split_of_join 10 line lines h.0 h.1
 
 -- ---- the groups of these lines
 

@@ -6,10 +6,11 @@ use Rattle.std.proofs.lemmas.Bool.{le-ltb, lt-ltb}
 use Rattle.std.proofs.lemmas.List.{drop_more, drop_all, length-map, length-take}
 use Rattle.std.proofs.lemmas.List.Sums.{count_by-le-length}
 use Rattle.std.proofs.lemmas.List.Splits.{length-slice_split}
+use Rattle.mq_block_text.specs.Words.{lines_of, without_line_feed}
 use Rattle.mq_tree.specs.declared.request.Request.{Request}
 use Rattle.mq_script.specs.Answers.{made, Agrees, AgreesAt, IsAt, Refused}
 use Rattle.mq_script.specs.Lines.{Answer, line_in}
-use Rattle.mq_script.specs.Reading.{ended_at, groups_in, lines_of, script_in, without_line_feed}
+use Rattle.mq_script.specs.Reading.{ended_at, groups_in, script_in}
 use Rattle.mq_script.specs.Scripts.{Group, Script}
 use Rattle.mq_script.specs.declared.group.End.{End}
 use Rattle.mq_script.specs.declared.line.Line.{Line}

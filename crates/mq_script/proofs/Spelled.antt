@@ -1,30 +1,32 @@
 -- What is read of a text is spelled by it.
-use Rattle.std.proofs.Common.{◌≡◌, ◌⊎◌, inl, inr, ℕ, Bool, true, false, cond, eqb, Option, Some, None, ◌+◌, ◌-◌, ◌*◌, ◌/◌, ◌%◌, ◌^◌, ◌<◌, ◌≤◌, List, [], ◌∷◌, ◌++◌, length, take, drop, map, replicate, refl, sym, ap, subst, ◌∙◌, append_assoc, append-nil, arith, length-append}
-use Rattle.std.specs.Prelude.{◌&&◌, nat_le, nat_lt, bytes_eq, codes, decimal, Result, Ok, Err, IfOk}
-use Rattle.std.specs.List.{AllByRecursion, find, join_with_byte, list_all, onto_first, slice_split}
+use Rattle.std.proofs.Common.{◌≡◌, inl, inr, ℕ, Bool, true, false, cond, eqb, Option, Some, None, ◌+◌, ◌-◌, ◌/◌, ◌≤◌, List, [], ◌∷◌, ◌++◌, length, take, drop, map, replicate, refl, sym, ap, subst, ◌∙◌, append_assoc, append-nil, arith, length-append, ◌⊎◌, ◌*◌, ◌%◌, ◌^◌, ◌<◌}
+use Rattle.std.specs.Prelude.{nat_le, nat_lt, bytes_eq, codes, decimal, Result, Ok, Err, IfOk, ◌&&◌}
+use Rattle.std.specs.List.{AllByRecursion, join_with_byte, list_all, onto_first, slice_split}
 use Rattle.std.specs.Option.{ok_or, option_map}
-use Rattle.std.specs.Str.Parse.{digits_value}
-use Rattle.std.proofs.lemmas.Bool.{eqb-true, leb-true, ltb-true, ltb-false, and_from, and_parts}
+use Rattle.std.proofs.lemmas.Bool.{eqb-true, leb-true, ltb-false, and_from, and_parts}
 use Rattle.std.proofs.lemmas.List.{take-append-drop}
 use Rattle.std.proofs.lemmas.List.Folds.{list_all-append}
 use Rattle.std.proofs.lemmas.List.Splits.{join_with_byte-slice_split}
 use Rattle.std.proofs.lemmas.Slice.Eq.{bytes_eq-Decides}
 use Rattle.std.proofs.lemmas.Option.{same_Some}
 use Rattle.mq_block_text.specs.Refusals.{ended}
-use Rattle.mq_block_text.specs.Text.{hex_digit, hex_text}
+use Rattle.mq_block_text.specs.Text.{hex_text, hex_digit}
 use Rattle.mq_block_text.proofs.TextParts.{split_some}
+use Rattle.mq_block_text.specs.Words.{is_plain, lines_of, byte_in, number_in, one_of, two_of, words_of, is_visible, byte_of, digit_in, AreLines}
+use Rattle.mq_block_text.proofs.WordsDigits.{byte_read, number_spelled}
+use Rattle.mq_block_text.proofs.WordsLines.{lines_are, word_found}
 use Rattle.mq_tree.specs.declared.request.Request.{Request}
 use Rattle.mq_tree.specs.declared.request.Request.TheVariants.{Mkdir as make_mkdir, Create as make_create, Write as make_write, Truncate as make_truncate, Unlink as make_unlink, Rmdir as make_rmdir, Rename as make_rename, Link as make_link, Read as make_read, List as make_list, Stat as make_stat}
 use Rattle.mq_tree.specs.Listings.{names_text, path_text}
 use Rattle.mq_script.specs.Answers.{and_then, made, AgreesAt, Refused}
 use Rattle.mq_script.specs.Grammar.{is_letter, AreBytes, IsNumber, IsPath}
-use Rattle.mq_script.specs.Lines.{Answer, a_path, a_path_a_number_and_data, a_path_and_a_number, a_path_and_two_numbers, an_end, arguments_in, is_plain, line_in, two_paths, verb_line, words_line}
+use Rattle.mq_script.specs.Lines.{Answer, a_path, a_path_a_number_and_data, a_path_and_a_number, a_path_and_two_numbers, an_end, arguments_in, line_in, two_paths, verb_line, words_line}
 use Rattle.mq_script.specs.Printing.{is_quotable, pairs_text, request_text}
-use Rattle.mq_script.specs.Reading.{ended_at, groups_in, lines_of, script_in, without_line_feed}
+use Rattle.mq_script.specs.Reading.{groups_in, script_in, ended_at}
 use Rattle.mq_script.specs.Scripts.{Group, Script}
-use Rattle.mq_script.specs.Spelled.{AreLines, Asks, AskAll, IsData, IsFill, IsHex, IsQuoted, IsWriting, SpellAll, Spells, end_word}
+use Rattle.mq_script.specs.Spelled.{Asks, AskAll, IsData, IsFill, IsHex, IsQuoted, IsWriting, SpellAll, Spells, end_word}
 use Rattle.mq_script.specs.Verbs.{verb_in, verb_text, verbs}
-use Rattle.mq_script.specs.Words.{after, byte_in, byte_of, data_in, digit_in, fill_in, filled, form_in, names_in, number_in, one_of, onto, pairs_in, path_in, quoted_in, rest_of, three_of, two_of, words_of}
+use Rattle.mq_script.specs.Words.{after, data_in, fill_in, filled, form_in, names_in, onto, pairs_in, path_in, quoted_in, rest_of, three_of}
 use Rattle.mq_script.specs.declared.group.End.{End}
 use Rattle.mq_script.specs.declared.group.End.TheVariants.{Fsync as by_fsync, Fatomic as by_fatomic, Ask as by_ask}
 use Rattle.mq_script.specs.declared.line.Line.{Line}
@@ -35,9 +37,6 @@ use Rattle.mq_script.specs.declared.refusal.ScriptRefusal.{ScriptRefusal}
 use Rattle.mq_script.specs.declared.verb.Verb.{Verb}
 use Rattle.mq_script.specs.declared.verb.Verb.TheVariants.{Mkdir, Create, Write, Truncate, Unlink, Rmdir, Rename, Link, Read, List as ListOf, Stat, Fsync, Fatomic, Ask}
 use Rattle.mq_script.proofs.WordsCutting.{is_space}
-use Rattle.mq_script.proofs.WordsDigits.{byte_read}
-use Rattle.mq_script.proofs.PrintingLines.{is_visible}
-use Rattle.mq_script.proofs.Reading.{ended_join}
 
 -- ---- answers that are Ok
 
@@ -131,19 +130,6 @@ path_is word names h e = step (after (codes "/") word) refl e
         let t = names_is rest (back is_visible (47 ∷ []) rest (ap (list_all is_visible) (sym text) ∙ h)) in
         (subst (λ (l : List (List ℕ)). IsPath l) same t.0, text ∙ t.1 ∙ ap path_text same)
 
--- ---- numbers
-
-pub number_is_text : (word : List ℕ) (n : ℕ) → number_in word ≡ Some n → IsNumber n × (word ≡ decimal n)
-number_is_text word n e = step (bytes_eq word (decimal (digits_value 10 word)) && nat_lt (digits_value 10 word) (2 ^ 64)) refl e
-  where
-    step : (t : Bool) → (bytes_eq word (decimal (digits_value 10 word)) && nat_lt (digits_value 10 word) (2 ^ 64)) ≡ t → cond t (Some (digits_value 10 word)) None ≡ Some n → IsNumber n × (word ≡ decimal n)
-    step true is p =
-        let same : digits_value 10 word ≡ n = cc in
-        let small : digits_value 10 word < 2 ^ 64 = ltb-true (digits_value 10 word) (2 ^ 64) (and_parts (bytes_eq word (decimal (digits_value 10 word))) (nat_lt (digits_value 10 word) (2 ^ 64)) is).1 in
-        let text : word ≡ decimal (digits_value 10 word) = (bytes_eq-Decides word (decimal (digits_value 10 word))).0 (and_parts (bytes_eq word (decimal (digits_value 10 word))) (nat_lt (digits_value 10 word) (2 ^ 64)) is).0 in
-        (subst (λ (m : ℕ). m < 2 ^ 64) same small, text ∙ ap decimal same)
-    step false is p = absurd (cc)
-
 -- ---- data
 
 plain_quotable : (b : ℕ) → is_plain b ≡ true → eqb b 34 ≡ false → is_quotable b ≡ true
@@ -210,7 +196,7 @@ fill_is (high ∷ low ∷ colon ∷ count) bytes e = step (eqb colon 58) refl e
               few = leb-true n 4243456 few;
               are = cc;
               is = ap (λ (l : List ℕ). codes "fill:" ++ l)
-                  (ap (λ (k : ℕ). high ∷ low ∷ k ∷ count) (eqb-true colon 58 at) ∙ ap (λ (l : List ℕ). high ∷ low ∷ 58 ∷ l) (number_is_text count n q).1 ∙ ap (λ (l : List ℕ). l ++ 58 ∷ decimal n) v.1);
+                  (ap (λ (k : ℕ). high ∷ low ∷ k ∷ count) (eqb-true colon 58 at) ∙ ap (λ (l : List ℕ). high ∷ low ∷ 58 ∷ l) (number_spelled count n q).1 ∙ ap (λ (l : List ℕ). l ++ 58 ∷ decimal n) v.1);
             }
         last false few s = absurd (cc)
 
@@ -320,7 +306,7 @@ number_args words x all e =
     let w = two_is words t.0.0 t.0.1 t.1 in
     let a = subst (λ (l : List (List ℕ)). AreVisible l) w all in
     let p = path_is t.0.0 u.0 a.0 u.1 in
-    let q = number_is_text t.0.1 v.0 v.1 in
+    let q = number_spelled t.0.1 v.0 v.1 in
     let s : (u.0, v.0) ≡ x = ok_same (u.0, v.0) x v.2 in
     subst (λ (y : List (List ℕ) × ℕ). IsPath y.0 × IsNumber y.1 × (words ≡ path_text y.0 ∷ decimal y.1 ∷ [])) s
     (p.0, q.0, w ∙ ap (λ (l : List ℕ). l ∷ t.0.1 ∷ []) p.1 ∙ ap (λ (l : List ℕ). path_text u.0 ∷ l ∷ []) q.1)
@@ -334,8 +320,8 @@ two_number_args words x all e =
     let w = three_is words t.0.0 t.0.1 t.0.2 t.1 in
     let a = subst (λ (l : List (List ℕ)). AreVisible l) w all in
     let p = path_is t.0.0 u.0 a.0 u.1 in
-    let q = number_is_text t.0.1 v.0 v.1 in
-    let r = number_is_text t.0.2 n.0 n.1 in
+    let q = number_spelled t.0.1 v.0 v.1 in
+    let r = number_spelled t.0.2 n.0 n.1 in
     let s : (u.0, v.0, n.0) ≡ x = ok_same (u.0, v.0, n.0) x n.2 in
     subst (λ (y : List (List ℕ) × ℕ × ℕ). IsPath y.0 × IsNumber y.1 × IsNumber y.2 × (words ≡ path_text y.0 ∷ decimal y.1 ∷ decimal y.2 ∷ [])) s
     (p.0, q.0, r.0, w ∙ ap (λ (l : List ℕ). l ∷ t.0.1 ∷ t.0.2 ∷ []) p.1 ∙ ap (λ (l : List ℕ). path_text u.0 ∷ l ∷ t.0.2 ∷ []) q.1 ∙ ap (λ (l : List ℕ). path_text u.0 ∷ decimal v.0 ∷ l ∷ []) r.1)
@@ -350,7 +336,7 @@ data_args words x all plain e =
     let w = rest_is words t.0.0 t.0.1 t.0.2 t.1 in
     let a = subst (λ (l : List (List ℕ)). AreVisible l) w.are all in
     let p = path_is t.0.0 u.0 a.0 u.1 in
-    let q = number_is_text t.0.1 v.0 v.1 in
+    let q = number_spelled t.0.1 v.0 v.1 in
     let line : join_with_byte 32 words ≡ t.0.0 ++ 32 ∷ t.0.1 ++ 32 ∷ t.0.2 =
     ap (join_with_byte 32) w.are ∙ ap (λ (l : List ℕ). t.0.0 ++ 32 ∷ (t.0.1 ++ 32 ∷ l)) (sym w.is) ∙ sym (append_assoc t.0.0 (32 ∷ t.0.1) (32 ∷ t.0.2)) in
     let r = data_is t.0.2 d.0 (back is_plain (32 ∷ []) t.0.2 (back is_plain (t.0.0 ++ 32 ∷ t.0.1) (32 ∷ t.0.2) (ap (list_all is_plain) (sym line) ∙ plain))) d.1 in
@@ -433,14 +419,6 @@ args_is Ask words l all plain e =
     let t = end_args by_ask words l e in
     subst (λ (x : Line). SpellsLine x (join_with_byte 32 (codes "ask" ∷ words))) (sym t.1) (ap (λ (ws : List (List ℕ)). join_with_byte 32 (codes "ask" ∷ ws)) t.0)
 
-verb_found : (word : List ℕ) (all : List Verb) (v : Verb) → find (λ x. bytes_eq word (verb_text x)) all ≡ Some v → word ≡ verb_text v
-verb_found word [] v e = absurd (cc)
-verb_found word (x ∷ all) v e = step (λ q. verb_found word all v q) (bytes_eq word (verb_text x)) refl e
-  where
-    step : (find (λ y. bytes_eq word (verb_text y)) all ≡ Some v → word ≡ verb_text v) → (t : Bool) → bytes_eq word (verb_text x) ≡ t → cond t (Some x) (find (λ y. bytes_eq word (verb_text y)) all) ≡ Some v → word ≡ verb_text v
-    step again true is p = let same : x ≡ v = cc in (bytes_eq-Decides word (verb_text x)).0 is ∙ ap verb_text same
-    step again false is p = again p
-
 space_visible : (b : ℕ) → is_plain b ≡ true → is_space b ≡ false → is_visible b ≡ true
 space_visible b h e = grind arith
 
@@ -458,7 +436,7 @@ words_is (w ∷ words) line l is all plain e = step (verb_in w) refl e
     step : (o : Option Verb) → verb_in w ≡ o → verb_line o words ≡ Ok l → SpellsLine l line
     step None found_none p = absurd (cc)
     step (Some v) found_verb p =
-        let text : w ≡ verb_text v = verb_found w verbs v found_verb in
+        let text : w ≡ verb_text v = word_found verb_text w verbs v found_verb in
         subst (λ (t : List ℕ). SpellsLine l t) (ap (λ (x : List ℕ). join_with_byte 32 (x ∷ words)) (sym text) ∙ joined)
         (args_is v words l all.1 (later_plain w words (ap (list_all is_plain) joined ∙ plain)) p)
 
@@ -508,27 +486,6 @@ groups_is before requests asked (line ∷ lines) groups all e = step (λ k rs so
             (asked, lines, all, ap (λ (l : List ℕ). asked ++ l ∷ lines) (line_is line (ends end) is), again (before + 1) [] [] rest tt at)
 
 -- ---- texts
-
-ends_in_feed : (text : List ℕ) → bytes_eq (drop (length text - 1) text) (codes "\n") ≡ true → text ≡ take (length text - 1) text ++ 10 ∷ []
-ends_in_feed text h =
-    let same : drop (length text - 1) text ≡ 10 ∷ [] = (bytes_eq-Decides (drop (length text - 1) text) (codes "\n")).0 h in
-    sym (take-append-drop (length text - 1) text) ∙ ap (λ (l : List ℕ). take (length text - 1) text ++ l) same
-
-cut_ended : (text : List ℕ) → ended 10 (slice_split (λ c. eqb c 10) text) ≡ text ++ 10 ∷ []
-cut_ended text = step (slice_split (λ c. eqb c 10) text) (split_some (λ c. eqb c 10) text) (join_with_byte-slice_split 10 text)
-  where
-    step : (parts : List (List ℕ)) → (parts ≡ [] → ⊥) → join_with_byte 10 parts ≡ text → ended 10 parts ≡ text ++ 10 ∷ []
-    step [] some is = absurd (some refl)
-    step (x ∷ xs) some is = ended_join x xs ∙ ap (λ (l : List ℕ). l ++ 10 ∷ []) is
-
--- a text is its lines, each ended by a line feed but for the last
-pub lines_are : (text : List ℕ) → AreLines text (lines_of text)
-lines_are [] = inl refl
-lines_are (b ∷ bs) = step (bytes_eq (drop (length (b ∷ bs) - 1) (b ∷ bs)) (codes "\n")) refl
-  where
-    step : (t : Bool) → bytes_eq (drop (length (b ∷ bs) - 1) (b ∷ bs)) (codes "\n") ≡ t → AreLines (b ∷ bs) (slice_split (λ c. eqb c 10) (cond t (take (length (b ∷ bs) - 1) (b ∷ bs)) (b ∷ bs)))
-    step true feed = inl (ends_in_feed (b ∷ bs) feed ∙ sym (cut_ended (take (length (b ∷ bs) - 1) (b ∷ bs))))
-    step false feed = inr (sym (cut_ended (b ∷ bs)))
 
 -- what is read of a text is spelled by it
 pub script_is : (text : List ℕ) (script : Script) → script_in text ≡ Ok script → Spells text script

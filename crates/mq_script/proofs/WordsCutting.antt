@@ -7,7 +7,8 @@ use Rattle.std.proofs.lemmas.List.{take_all}
 use Rattle.std.proofs.lemmas.List.Splits.{slice_split_first, join_with_byte-slice_split}
 use Rattle.std.proofs.lemmas.Option.{cond_some}
 use Rattle.mq_block_text.proofs.TextParts.{split_some}
-use Rattle.mq_script.specs.Words.{words_of, one_of, rest_of}
+use Rattle.mq_block_text.specs.Words.{words_of, one_of}
+use Rattle.mq_script.specs.Words.{rest_of}
 
 abbrev pub is_space : ℕ → Bool
 is_space b = eqb b 32

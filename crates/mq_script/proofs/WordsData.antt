@@ -7,7 +7,8 @@ use Rattle.std.proofs.lemmas.Bool.{eqb-true, or_parts}
 use Rattle.std.proofs.lemmas.Bool.Decides.{Decides-eqb}
 use Rattle.std.proofs.lemmas.List.{drop_more, drop_all}
 use Rattle.std.proofs.lemmas.Slice.Eq.{strip_suffix_is}
-use Rattle.mq_script.specs.Words.{quoted_in, byte_in, onto, pairs_in}
+use Rattle.mq_block_text.specs.Words.{byte_in}
+use Rattle.mq_script.specs.Words.{quoted_in, onto, pairs_in}
 
 -- ---- pairs of digits
 

@@ -1,11 +1,12 @@
 -- The lines of scripts: what each says, or why it is refused.
-use Rattle.std.specs.Prelude.{ℕ, Bool, ◌&&◌, nat_le, if◌then◌else◌, Option, Some, None, Result, Ok, Err, List, [], ◌∷◌}
+use Rattle.std.specs.Prelude.{ℕ, if◌then◌else◌, Option, Some, None, Result, Ok, Err, List, [], ◌∷◌}
 use Rattle.std.specs.List.{list_all}
 use Rattle.std.specs.Option.{ok_or}
+use Rattle.mq_block_text.specs.Words.{is_plain, words_of, one_of, two_of, number_in}
 use Rattle.mq_tree.specs.declared.request.Request.TheVariants.{Mkdir as make_mkdir, Create as make_create, Write as make_write, Truncate as make_truncate, Unlink as make_unlink, Rmdir as make_rmdir, Rename as make_rename, Link as make_link, Read as make_read, List as make_list, Stat as make_stat}
 use Rattle.mq_script.specs.Answers.{and_then, made}
 use Rattle.mq_script.specs.Verbs.{verb_in}
-use Rattle.mq_script.specs.Words.{words_of, one_of, two_of, three_of, rest_of, number_in, path_in, data_in}
+use Rattle.mq_script.specs.Words.{three_of, rest_of, path_in, data_in}
 use Rattle.mq_script.specs.declared.group.End.{End}
 use Rattle.mq_script.specs.declared.group.End.TheVariants.{Fsync as by_fsync, Fatomic as by_fatomic, Ask as by_ask}
 use Rattle.mq_script.specs.declared.line.Line.{Line}
@@ -80,10 +81,6 @@ verb_line (Some verb) words = arguments_in verb words
 abbrev pub words_line : List (List ℕ) → Answer Line
 words_line [] = Err NoVerb
 words_line (w ∷ words) = verb_line (verb_in w) words
-
--- a space, or a visible character of ASCII
-abbrev pub is_plain : ℕ → Bool
-is_plain b = nat_le 32 b && nat_le b 126
 
 abbrev pub line_in : List ℕ → Answer Line
 line_in line = if list_all is_plain line then words_line (words_of line) else Err Bytes

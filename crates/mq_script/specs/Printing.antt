@@ -2,10 +2,10 @@
 use Rattle.std.specs.Prelude.{ℕ, Bool, ◌&&◌, ◌==◌, not, if◌then◌else◌, List, [], ◌∷◌, ◌++◌, codes, decimal}
 use Rattle.std.specs.List.{list_all}
 use Rattle.mq_block_text.specs.Text.{hex_text}
+use Rattle.mq_block_text.specs.Words.{is_plain}
 use Rattle.mq_tree.specs.declared.request.Request.{Request}
 use Rattle.mq_tree.specs.declared.request.Request.TheVariants.{Mkdir, Create, Write, Truncate, Unlink, Rmdir, Rename, Link, Read, List as ListOf, Stat}
 use Rattle.mq_tree.specs.Listings.{path_text}
-use Rattle.mq_script.specs.Lines.{is_plain}
 use Rattle.mq_script.specs.Scripts.{Group, Script}
 use Rattle.mq_script.specs.declared.group.End.{End}
 use Rattle.mq_script.specs.declared.group.End.TheVariants.{Fsync, Fatomic, Ask}

@@ -1,6 +1,6 @@
 -- Whole scripts: the one that a text is read as, or its first line that is refused.
-use Rattle.std.specs.Prelude.{ℕ, ◌+◌, ◌-◌, ◌==◌, nat_lt, if◌then◌else◌, Result, Ok, Err, List, [], ◌∷◌, ◌++◌, length, take, drop, map, codes, bytes_eq}
-use Rattle.std.specs.List.{slice_split}
+use Rattle.std.specs.Prelude.{ℕ, ◌+◌, nat_lt, if◌then◌else◌, Result, Ok, Err, List, [], ◌∷◌, ◌++◌, length, map}
+use Rattle.mq_block_text.specs.Words.{lines_of}
 use Rattle.mq_tree.specs.declared.request.Request.{Request}
 use Rattle.mq_script.specs.Answers.{made, Refused}
 use Rattle.mq_script.specs.Lines.{Answer, line_in}
@@ -8,16 +8,6 @@ use Rattle.mq_script.specs.Scripts.{Group, Script}
 use Rattle.mq_script.specs.declared.line.Line.{Line}
 use Rattle.mq_script.specs.declared.line.Line.TheVariants.{Asks, Ends}
 use Rattle.mq_script.specs.declared.refusal.ScriptCause.TheVariants.{Size, Open}
-
--- the text without the line feed at its end, where it has one
-abbrev pub without_line_feed : List ℕ → List ℕ
-without_line_feed text =
-    if bytes_eq (drop (length text - 1) text) (codes "\n") then take (length text - 1) text else text
-
--- the lines, each ended by a line feed, which may be missing from the last
-abbrev pub lines_of : List ℕ → List (List ℕ)
-lines_of [] = []
-lines_of (b ∷ bs) = slice_split (λ c. c == 10) (without_line_feed (b ∷ bs))
 
 -- after the last line, which has this number, no requests wait for the end of their group
 abbrev pub ended_at : ℕ → List Request → Result (List Group) Refused

@@ -1,8 +1,8 @@
 -- Which texts spell which scripts.
 use Rattle.std.specs.Prelude.{◌≡◌, ◌<◌, ◌≤◌, ◌⊎◌, ℕ, true, List, [], ◌∷◌, ◌++◌, length, replicate, codes, decimal}
 use Rattle.std.specs.List.{list_all}
-use Rattle.mq_block_text.specs.Refusals.{ended}
 use Rattle.mq_block_text.specs.Text.{hex_text}
+use Rattle.mq_block_text.specs.Words.{AreLines}
 use Rattle.mq_tree.specs.declared.request.Request.{Request}
 use Rattle.mq_tree.specs.declared.request.Request.TheVariants.{Mkdir, Create, Write, Truncate, Unlink, Rmdir, Rename, Link, Read, List as ListOf, Stat}
 use Rattle.mq_tree.specs.Listings.{path_text}
@@ -76,10 +76,6 @@ SpellAll lines [] = lines ≡ []
 SpellAll lines (g ∷ groups) =
     (asked : List (List ℕ)) × (rest : List (List ℕ)) × AskAll asked g.requests
     × (lines ≡ asked ++ end_word g.end ∷ rest) × SpellAll rest groups
-
--- each line ends with a line feed, which may be missing from the last
-abbrev pub AreLines : List ℕ → List (List ℕ) → Type 0
-AreLines text lines = (text ≡ ended 10 lines) ⊎ (text ++ 10 ∷ [] ≡ ended 10 lines)
 
 -- the text spells the script
 pub record Spells (text : List ℕ) (script : Script) : Type 0 where

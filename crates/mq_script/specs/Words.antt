@@ -1,28 +1,16 @@
--- The words of lines: paths, numbers and data.
-use Rattle.std.specs.Prelude.{ℕ, ◌+◌, ◌-◌, ◌*◌, ◌^◌, ◌&&◌, ◌==◌, nat_lt, nat_le, if◌then◌else◌, Option, Some, None, List, [], ◌∷◌, length, drop, take, replicate, codes, bytes_eq, decimal}
+-- The words of lines: paths and data.
+use Rattle.std.specs.Prelude.{ℕ, ◌==◌, nat_le, if◌then◌else◌, Option, Some, None, List, [], ◌∷◌, length, drop, take, replicate, codes, bytes_eq}
 use Rattle.std.specs.List.{slice_split, join_with_byte}
 use Rattle.std.specs.Option.{option_map}
-use Rattle.std.specs.Str.Parse.{digits_value}
+use Rattle.mq_block_text.specs.Words.{byte_in, number_in, words_of}
 use denote.Ref.{Bor}
 
 -- ---- where a line is cut
-
--- the words between the spaces
-abbrev pub words_of : List ℕ → List (List ℕ)
-words_of line = slice_split (λ b. b == 32) line
 
 -- the words of what follows a space, if one is there
 abbrev pub words_after : Option (Bor (List ℕ)) → List (List ℕ)
 words_after None = []
 words_after (Some text) = words_of text.now
-
-abbrev pub one_of : List (List ℕ) → Option (List ℕ)
-one_of (a ∷ []) = Some a
-one_of words = None
-
-abbrev pub two_of : List (List ℕ) → Option (List ℕ × List ℕ)
-two_of (a ∷ b ∷ []) = Some (a, b)
-two_of words = None
 
 abbrev pub three_of : List (List ℕ) → Option (List ℕ × List ℕ × List ℕ)
 three_of (a ∷ b ∷ c ∷ []) = Some (a, b, c)
@@ -37,14 +25,6 @@ rest_of words = None
 abbrev pub after : List ℕ → List ℕ → Option (List ℕ)
 after front text =
     if bytes_eq (take (length front) text) front then Some (drop (length front) text) else None
-
--- ---- numbers
-
--- below 2^64, and written by its own digits: no zero stands before others
-abbrev pub number_in : List ℕ → Option ℕ
-number_in text =
-    if bytes_eq text (decimal (digits_value 10 text)) && nat_lt (digits_value 10 text) (2 ^ 64)
-    then Some (digits_value 10 text) else None
 
 -- ---- paths
 
@@ -64,21 +44,6 @@ abbrev pub quoted_in : List ℕ → Option (List ℕ)
 quoted_in [] = None
 quoted_in (b ∷ []) = if b == 34 then Some [] else None
 quoted_in (b ∷ c ∷ text) = if b == 34 then None else option_map (λ t. b ∷ t) (quoted_in (c ∷ text))
-
--- a digit from 0 to 9 or from a to f
-abbrev pub digit_in : ℕ → Option ℕ
-digit_in d =
-    if nat_le 48 d && nat_le d 57 then Some (d - 48) else if nat_le 97 d && nat_le d 102
-    then Some (d - 87) else None
-
-abbrev pub byte_of : Option ℕ → Option ℕ → Option ℕ
-byte_of None low = None
-byte_of (Some high) None = None
-byte_of (Some high) (Some low) = Some (high * 16 + low)
-
--- the byte of two digits
-abbrev pub byte_in : (high low : ℕ) → Option ℕ
-byte_in high low = byte_of (digit_in high) (digit_in low)
 
 abbrev pub onto : Option ℕ → Option (List ℕ) → Option (List ℕ)
 onto None bytes = None

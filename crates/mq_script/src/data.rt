@@ -5,8 +5,8 @@ ghost use Rattle.mq_script.specs.Answers.{Agrees};
 ghost use Rattle.mq_script.specs.Words.{quoted_in, pairs_in, fill_in, data_in};
 ghost use Rattle.mq_script.specs.declared.refusal.ScriptCause.TheVariants.{Data as not_data};
 
-use crate::digits::{byte_of, number_of};
 use crate::refusal::{LineRefusal, ScriptCause};
+use mq_block_text::{byte_of, number_of};
 use mq_tree::Bytes;
 use std::alloc::Global;
 

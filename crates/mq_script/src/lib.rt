@@ -2,7 +2,6 @@
 #![tactic(auto)]
 
 mod data;
-mod digits;
 mod generate;
 mod group;
 mod laws;
@@ -19,5 +18,5 @@ pub use group::{End, Group, Script};
 pub use laws::printed_scripts_are_read;
 pub use path::read_path;
 pub use print::print_script;
-pub use read::{cut_lines, read_script};
+pub use read::read_script;
 pub use refusal::{LineRefusal, ScriptCause, ScriptRefusal};

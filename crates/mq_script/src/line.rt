@@ -1,18 +1,19 @@
 // A line: a request, or the end of a group.
 ghost use Rattle.std.specs.Prelude.{◌≡◌};
 ghost use Rattle.std.specs.List.{list_all};
+ghost use Rattle.mq_block_text.specs.Words.{is_plain};
 ghost use Rattle.mq_script.specs.Answers.{Agrees};
 ghost use Rattle.mq_script.specs.Lines.{a_path, two_paths, a_path_and_a_number, a_path_and_two_numbers};
-ghost use Rattle.mq_script.specs.Lines.{a_path_a_number_and_data, an_end, arguments_in, is_plain, line_in};
+ghost use Rattle.mq_script.specs.Lines.{a_path_a_number_and_data, an_end, arguments_in, line_in};
 ghost use Rattle.mq_script.specs.Words.{words_after};
 
 use crate::data::read_data;
-use crate::digits::number_of;
 use crate::group::End;
 use crate::path::read_path;
 use crate::refusal::{LineRefusal, ScriptCause};
 use crate::verb::{Verb, read_verb};
 use crate::words::{cut_word, one_word, three_words, two_words, two_words_and_rest};
+use mq_block_text::number_of;
 use mq_tree::{Bytes, Path, Request};
 use std::alloc::Global;
 

@@ -1,31 +1,18 @@
 // A whole script.
-ghost use Rattle.std.specs.Prelude.{◌≡◌, IfOk, map};
+ghost use Rattle.std.specs.Prelude.{IfOk};
 ghost use Rattle.mq_script.specs.Answers.{AgreesAt, IsAt};
-ghost use Rattle.mq_script.specs.Reading.{lines_of, script_in};
+ghost use Rattle.mq_script.specs.Reading.{script_in};
 ghost use Rattle.mq_script.specs.Spelled.{Spells};
 
 use crate::group::{Group, Script};
 use crate::line::{Line, read_line};
 use crate::refusal::{LineRefusal, ScriptCause, ScriptRefusal};
-use mq_block_text::cut_at;
-use std::alloc::{AllocError, Global};
+use mq_block_text::cut_lines;
+use std::alloc::Global;
 use std::mem;
 
 /// The greatest number of bytes of a script.
 const SIZE_LIMIT: usize = 16_777_216;
-
-/// The lines of a text. The last may lack its line feed.
-pub fn cut_lines(alloc: Global, bytes: &[u8]) -> Result<Vec<&[u8]>, AllocError>
-    ensures { IfOk result (λ v. map (λ x. x.now) v.items ≡ lines_of bytes.now) }
-{
-    if bytes.is_empty() {
-        return Ok(Vec::new(alloc));
-    }
-    match bytes.strip_suffix(b"\n".as_slice()) {
-        Some(front) => cut_at(alloc, front, b'\n'),
-        None => cut_at(alloc, bytes, b'\n'),
-    }
-}
 
 /// The refusal of a line, at its number.
 fn refused_at(line: u32, refusal: LineRefusal) -> ScriptRefusal

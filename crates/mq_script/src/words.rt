@@ -1,7 +1,8 @@
 // A line cut into its words.
 ghost use Rattle.std.specs.Prelude.{◌≡◌, ◌∷◌};
 ghost use Rattle.std.specs.Option.{option_map};
-ghost use Rattle.mq_script.specs.Words.{words_of, words_after, one_of, two_of, three_of, rest_of};
+ghost use Rattle.mq_block_text.specs.Words.{words_of, one_of, two_of};
+ghost use Rattle.mq_script.specs.Words.{words_after, three_of, rest_of};
 
 /// The first word of a line, and what follows the space after it.
 pub fn cut_word(text: &[u8]) -> (&[u8], Option<&[u8]>)

@@ -24,7 +24,7 @@ use Rattle.mq_command_images.specs.Commands.{Dumps, Formats, Lists, SaysNothing,
 use Rattle.mq_command_images.specs.Commands as commands
 use Rattle.mq_command_images.specs.Recovers.{Recovers, RefusesRecovery, recovered}
 use Rattle.mq_command_images.specs.Recovers as recovers
-use Rattle.mq_command_io.specs.Ending.{EndsWith, IsLoaded, IsNotLoaded, IsNotSaved, SaysOf, fault_line, load_failed, load_memory, load_too_long, memory_line, save_failed, save_line, save_memory, too_long_line}
+use Rattle.mq_command_io.specs.Ending.{EndsWith, IsLoaded, IsNotLoaded, IsNotSaved, SaysOf, fault_line, load_failed, load_memory, load_too_long, memory_line, save_failed, save_line, save_memory, too_long_line, SaysOnly, said}
 use Rattle.mq_command_io.specs.Ending as ending
 use Rattle.mq_command_io.proofs.Ending.{not-loaded-same}
 use Rattle.mq_command_loose.specs.SaysOfLoose.{SaysOfLoose}
@@ -43,7 +43,7 @@ use Rattle.mq_outside.specs.Outside.{AppendsPrefix, FilesState, Holds, SinkState
 use Rattle.mq_script.specs.Scripts.{Script}
 use Rattle.mqfs.specs.Course.{AreGiven, AreRead, Course, IsCause, IsCutOff, IsFault, IsOutOfMemory, IsWhole, KeepsOrGives, ends_at_cause, ends_at_load, ends_at_save, ends_whole, of_line, of_load, of_memory, of_output, of_save}
 use Rattle.mqfs.specs.Program.{IsToSay, loaded_names, no_command, no_memory, of_command, saved_names, usage_line}
-use Rattle.mqfs.specs.Says.{Says, SaysOnly, asked_workload, numbers, run_options, said}
+use Rattle.mqfs.specs.Says.{Says, asked_workload, numbers, run_options}
 use Rattle.mqfs.proofs.ProgramTold.{checks, dumps, lists, shows, statuses}
 
 -- ---- loads and saves

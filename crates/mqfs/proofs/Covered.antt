@@ -17,8 +17,9 @@ use Rattle.mq_command_images.specs.Commands as commands
 use Rattle.mq_command_images.specs.Recovers.{Recovers, RefusesRecovery, not_recovered, recovered}
 use Rattle.mq_command_images.specs.Recovers as recovers
 use Rattle.mq_command_images.specs.declared.formatting.Numbers.{Numbers}
-use Rattle.mq_command_io.specs.Ending.{EndsWith, IsLoaded, IsNotLoaded, IsNotSaved, SaysOf, load_failed, load_memory, load_too_long, save_failed, save_memory}
+use Rattle.mq_command_io.specs.Ending.{EndsWith, IsLoaded, IsNotLoaded, IsNotSaved, SaysOf, load_failed, load_memory, load_too_long, save_failed, save_memory, SaysOnly, said}
 use Rattle.mq_command_io.specs.Ending as ending
+use Rattle.mq_command_io.proofs.Ending.{said_or}
 use Rattle.mq_command_loose.specs.SaysOfLoose.{LooseDecides, SaysOfLoose}
 use Rattle.mq_command_loose.specs.SaysOfLoose as loose_says
 use Rattle.mq_command_replicate.specs.Replicates.{Replicates}
@@ -46,8 +47,7 @@ use Rattle.mq_cli.specs.Help.{help_text, version_line}
 use Rattle.mq_cli.specs.declared.command.RunFlags.{RunFlags}
 use Rattle.mqfs.specs.Decided.{ChainsDecide, FileDecides, ImageDecides, IsCovered, IsRunnable, NumbersDecide, RunDecides, StandingDecides, TraceDecides, TreeDecides, VolumeDecides, above_limit, bad_numbers, bad_script, bad_trace, good_numbers, good_trace, has_chains, has_file, has_no_file, has_standing, has_tree, is_no_image, no_chains, no_drive, no_image, no_standing, no_tree, no_volume, no_volume_there, none_stands, too_many, unreadable}
 use Rattle.mqfs.specs.Program.{IsToSay, no_command, no_memory, of_command}
-use Rattle.mqfs.specs.Says.{Says, SaysOnly, asked_workload, numbers, run_options, said}
-use Rattle.mqfs.proofs.ProgramEndings.{said_or}
+use Rattle.mqfs.specs.Says.{Says, asked_workload, numbers, run_options}
 
 -- the status is that of a fault, or memory ran out
 abbrev IsFailing : ℕ → Type 0
@@ -286,7 +286,7 @@ module _ (held : Held) (files : FilesState) (told : files.contents ≡ Some held
   asked-covered words a new _ _ asks (no_memory same) = inr (inr refl)
 
   pub covered_told : (words : Words) (a : Asked) (new : FilesState) (status : ℕ) (text : List ℕ) (result : ℕ) (out out_new : SinkState) → asked_of words ≡ Some a → IsToSay words files new status text → EndsWith status text result out out_new → IsCovered a (Some held) result ⊎ ((result ≡ 4) ⊎ (result ≡ 6))
-  covered_told words a new status text result out out_new asks say ends = elim (said_or words files new status text result out out_new say ends) [
+  covered_told words a new status text result out out_new asks say ends = elim (said_or status text result out out_new ends) [
     | inl e ↦ subst (λ (s : ℕ). IsCovered a (Some held) s ⊎ IsFailing s) (sym e.0) (asked-covered words a new status text asks say)
     | inr other ↦ inr other
   ]

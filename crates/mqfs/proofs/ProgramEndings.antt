@@ -2,7 +2,7 @@
 use Rattle.std.proofs.Common.{◌≡◌, ◌≢◌, ◌⊎◌, inl, inr, ℕ, cond, List, Option, Some, None, sym, ◌∙◌, ap, subst, arith}
 use Rattle.std.specs.Prelude.{nat_eq}
 use Rattle.mq_command_io.specs.Ending.{EndsWith, IsUnlessFailed}
-use Rattle.mq_command_io.proofs.Ending.{unless_wanting, four-or-six}
+use Rattle.mq_command_io.proofs.Ending.{unless_wanting, four-or-six, said_or, not-saved-zero, not-loaded-zero, low_failed}
 use Rattle.mq_outside.specs.Outside.{FilesState, Rose, SinkState, appended}
 use Rattle.mq_command_blocks.specs.SaysOfBlocks.{SaysOfBlocks, printed, refused}
 use Rattle.mq_command_blocks.specs.SaysOfBlocks as blocks_says
@@ -44,24 +44,17 @@ module _ (words : Words) (files new_files : FilesState) (status : ℕ) (text : L
   tells : SaysWords words files new_files status text
   tells = told_words words files new_files status text say
 
-  -- the text was said, or the status is 4 or 6
-  pub said_or : ((result ≡ status) × (new.contents ≡ appended old.contents text) × (new.faults ≡ old.faults)) ⊎ ((result ≡ 4) ⊎ (result ≡ 6))
-  said_or = elim ends [
-    | inl e ↦ inl e
-    | inr other ↦ elim other [ inl e ↦ inr (inl e.0) | inr e ↦ inr (four-or-six (nat_eq status 4) result e.0) ]
-  ]
-
   pub status_told : IsStatus result
-  status_told = elim said_or [ inl e ↦ subst IsStatus (sym e.0) tells.is | inr e ↦ as_status result e ]
+  status_told = elim (said_or status text result old new ends) [ inl e ↦ subst IsStatus (sym e.0) tells.is | inr e ↦ as_status result e ]
 
   pub said_told : result ≢ 4 → result ≢ 6 → IsSaid words files new_files old new result
-  said_told not_four not_six = elim said_or [
+  said_told not_four not_six = elim (said_or status text result old new ends) [
     | inl e ↦ (text, subst (λ (s : ℕ). IsToSay words files new_files s text) (sym e.0) say, e.1)
     | inr e ↦ elim e [ inl four ↦ absurd (not_four four) | inr six ↦ absurd (not_six six) ]
   ]
 
   pub usage_told : result ≡ 1 → AreUnknown words × (new.contents ≡ appended old.contents usage_line) × (new_files ≡ files)
-  usage_told one = elim said_or [
+  usage_told one = elim (said_or status text result old new ends) [
     | inl e ↦ (let t = tells.usage (sym e.0 ∙ one) in (t.0, e.1 ∙ ap (appended old.contents) t.1, t.2))
     | inr e ↦ elim e [ inl four ↦ absurd (omega (arith, four, one)) | inr six ↦ absurd (omega (arith, six, one)) ]
   ]
@@ -74,13 +67,13 @@ module _ (words : Words) (files new_files : FilesState) (status : ℕ) (text : L
   bad_said whole (inr (inr (inr t))) = inr (inr (inr (t.0, t.1, t.2, text, t.3, t.4, whole)))
 
   pub refused_told : result ≡ 2 → IsRefusedText words files old new ⊎ (IsRefusedLoose words files old new ⊎ (IsMisreadTrace words files old new ⊎ IsEndedRun 2 words files new_files old new))
-  refused_told two = elim said_or [
+  refused_told two = elim (said_or status text result old new ends) [
     | inl e ↦ bad_said e.1 (tells.bad (sym e.0 ∙ two))
     | inr e ↦ elim e [ inl four ↦ absurd (omega (arith, four, two)) | inr six ↦ absurd (omega (arith, six, two)) ]
   ]
 
   pub failed_told : result ≡ 5 → IsEndedRun 5 words files new_files old new
-  failed_told five = elim said_or [
+  failed_told five = elim (said_or status text result old new ends) [
     | inl e ↦ (let t = tells.ended (sym e.0 ∙ five) in (t.0, t.1, t.2, text, t.3, t.4, e.1))
     | inr e ↦ elim e [ inl four ↦ absurd (omega (arith, four, five)) | inr six ↦ absurd (omega (arith, six, five)) ]
   ]
@@ -105,7 +98,7 @@ module _ (words : Words) (files new_files : FilesState) (status : ℕ) (text : L
   ]
 
   pub takes_told : result ≢ 4 → result ≢ 6 → TakesFor words files new_files
-  takes_told not_four not_six = elim said_or [
+  takes_told not_four not_six = elim (said_or status text result old new ends) [
     | inl e ↦ tells.takes (λ four. not_four (e.0 ∙ four)) (λ six. not_six (e.0 ∙ six))
     | inr e ↦ elim e [ inl four ↦ absurd (not_four four) | inr six ↦ absurd (not_six six) ]
   ]
@@ -113,18 +106,10 @@ module _ (words : Words) (files new_files : FilesState) (status : ℕ) (text : L
   pub names_told : KeepsNames words files new_files
   names_told = tells.names
 
-  low : (result ≡ 1) ⊎ ((result ≡ 2) ⊎ (result ≡ 3)) → (result ≡ 4) ⊎ (result ≡ 6) → ⊥
-  low (inl one) (inl four) = omega (arith, one, four)
-  low (inl one) (inr six) = omega (arith, one, six)
-  low (inr (inl two)) (inl four) = omega (arith, two, four)
-  low (inr (inl two)) (inr six) = omega (arith, two, six)
-  low (inr (inr three)) (inl four) = omega (arith, three, four)
-  low (inr (inr three)) (inr six) = omega (arith, three, six)
-
   pub contents_told : (result ≡ 1) ⊎ ((result ≡ 2) ⊎ (result ≡ 3)) → new_files.contents ≡ files.contents
-  contents_told some = elim said_or [
+  contents_told some = elim (said_or status text result old new ends) [
     | inl e ↦ tells.contents (subst (λ (s : ℕ). (s ≡ 1) ⊎ ((s ≡ 2) ⊎ (s ≡ 3))) e.0 some)
-    | inr e ↦ absurd (low some e)
+    | inr e ↦ absurd (low_failed result some e)
   ]
 
   -- where the words are no command
@@ -133,22 +118,13 @@ module _ (words : Words) (files new_files : FilesState) (status : ℕ) (text : L
 
 -- ---- `blocks`, done
 
-pub zero-or : (file : List ℕ) (old new : FilesState) (status : ℕ) (text : List ℕ) → IsNotLoaded file old new status text → status ≡ 0 → ⊥
-zero-or file old new _ _ (load_failed same rose tried) zero = omega (arith, zero)
-zero-or file old new _ _ (load_too_long same over faults takes tried) zero = omega (arith, zero)
-zero-or file old new _ _ (load_memory same faults tried) zero = omega (arith, zero)
-
-pub zero-or-saved : (name : List ℕ) (old new : FilesState) (status : ℕ) (text : List ℕ) → IsNotSaved name old new status text → status ≡ 0 → ⊥
-zero-or-saved name old new _ _ (save_failed other rose taken tried) zero = omega (arith, zero)
-zero-or-saved name old new _ _ (save_memory same faults taken tried) zero = omega (arith, zero)
-
 module _ (file : List ℕ) (options : BlocksOptions) (save trace : Option (List ℕ)) (files new_files : FilesState) (old new : SinkState) where
   done_of : (status : ℕ) (text : List ℕ) → SaysOfBlocks file options save trace files new_files status text → status ≡ 0 → new.contents ≡ appended old.contents text → IsDone file options save trace files new_files old new
   done_of _ _ (printed bytes lines p x mid kept load is at run saves traces) zero out = (bytes, lines, p, x, mid, kept, load.holds, load.contents, is, at, run, saves, traces, out)
   done_of _ _ (refused bytes line cause load refuses) zero out = absurd (omega (arith, zero))
-  done_of status text (blocks_says.not_loaded not) zero out = absurd (zero-or file files new_files status text not zero)
-  done_of status text (blocks_says.not_saved bytes lines name mid asks load is not) zero out = absurd (zero-or-saved name mid new_files status text not zero)
-  done_of status text (blocks_says.trace_not_saved bytes lines name q x mid kept asks load is at run saves not) zero out = absurd (zero-or-saved name kept new_files status text not zero)
+  done_of status text (blocks_says.not_loaded not) zero out = absurd (not-loaded-zero file files new_files status text not zero)
+  done_of status text (blocks_says.not_saved bytes lines name mid asks load is not) zero out = absurd (not-saved-zero name mid new_files status text not zero)
+  done_of status text (blocks_says.trace_not_saved bytes lines name q x mid kept asks load is at run saves not) zero out = absurd (not-saved-zero name kept new_files status text not zero)
   done_of _ _ (blocks_says.wants_memory others load) zero out = absurd (omega (arith, zero))
 
   done_words : (words : Words) (status : ℕ) (text : List ℕ) → asked_of words ≡ Some (blocks file options save trace) → IsToSay words files new_files status text → status ≡ 0 → new.contents ≡ appended old.contents text → IsDone file options save trace files new_files old new
@@ -160,7 +136,7 @@ module _ (file : List ℕ) (options : BlocksOptions) (save trace : Option (List 
   done_words words _ _ asks (no_memory same) zero out = absurd (omega (arith, zero))
 
   pub done_told : (words : Words) (status : ℕ) (text : List ℕ) (result : ℕ) → asked_of words ≡ Some (blocks file options save trace) → IsToSay words files new_files status text → EndsWith status text result old new → result ≡ 0 → IsDone file options save trace files new_files old new
-  done_told words status text result asks say ends zero = elim (said_or words files new_files status text result old new say ends) [
+  done_told words status text result asks say ends zero = elim (said_or status text result old new ends) [
     | inl e ↦ done_words words status text asks say (sym e.0 ∙ zero) e.1
     | inr e ↦ elim e [ inl four ↦ absurd (omega (arith, four, zero)) | inr six ↦ absurd (omega (arith, six, zero)) ]
   ]

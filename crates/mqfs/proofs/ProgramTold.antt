@@ -18,7 +18,9 @@ use Rattle.mq_command_run.specs.RunsScripts.{AreLoaded, RefusesRunning, RefusesS
 use Rattle.mq_command_run.specs.RunsScripts as runs
 use Rattle.mq_command_images.specs.declared.formatting.Numbers.{Numbers}
 use Rattle.mq_command_run.specs.declared.workload.Workload.{Workload}
-use Rattle.mq_command_io.specs.Ending.{IsLoaded, IsNotLoaded, IsNotSaved, IsSaved, SaysOf, TakesWithin, load_failed, load_memory, load_too_long, loaded, not_loaded, save_failed, save_memory, wanting}
+use Rattle.mq_command_io.specs.Ending.{IsLoaded, IsNotLoaded, IsNotSaved, IsSaved, SaysOf, TakesWithin, load_failed, load_memory, load_too_long, loaded, not_loaded, save_failed, save_memory, wanting, HoldsTooMuch, TakesUpTo, KeepsOthers, SaysOnly, said}
+use Rattle.mq_command_io.proofs.Ending.{same-others, keeps, keeps-but, saved-others}
+use Rattle.std.specs.List.{Contains}
 use Rattle.mq_image.specs.File.{DriveImage, image_bytes}
 use Rattle.mq_image_run.specs.declared.options.RunOptions.{RunOptions}
 use Rattle.mq_loose_text.specs.Text as loose_text
@@ -35,17 +37,10 @@ use Rattle.mq_tree.specs.Volume.{Path}
 use Rattle.mq_cli.specs.Asked.{Asked, Words, asked_of, audit, blocks, cat, check, dump, format, gen, help, loose, ls, recover, replicate, run, version}
 use Rattle.mq_cli.specs.declared.command.BlocksOptions.{BlocksOptions}
 use Rattle.mq_cli.specs.declared.command.RunFlags.{RunFlags}
-use Rattle.mqfs.specs.Program.{AreUnknown, AskText, HoldsTooMuch, IsStatus, IsToSay, KeepsOthers, TakesUpTo, loaded_by, loaded_names, no_command, no_memory, of_command, saved_by, saved_names, usage_line}
-use Rattle.mqfs.specs.Says.{Says, SaysOnly, asked_workload, numbers, run_options, said}
+use Rattle.mqfs.specs.Program.{AreUnknown, AskText, IsStatus, IsToSay, loaded_by, loaded_names, no_command, no_memory, of_command, saved_by, saved_names, usage_line}
+use Rattle.mqfs.specs.Says.{Says, asked_workload, numbers, run_options}
 
 -- ---- names
-
-same-others : (names : List (List ℕ)) (old : Option Held) → KeepsOthers names old old
-same-others names None = tt
-same-others names (Some held) = λ other apart. refl
-
-keeps : (names : List (List ℕ)) (old new : FilesState) → new.contents ≡ old.contents → KeepsOthers names old.contents new.contents
-keeps names old new same = subst (KeepsOthers names old.contents) (sym same) (same-others names old.contents)
 
 keeps-along : (names : List (List ℕ)) (old mid new : Option Held) → KeepsOthers names old mid → KeepsOthers names mid new → KeepsOthers names old new
 keeps-along names None None new before after = after
@@ -54,30 +49,12 @@ keeps-along names (Some old) None new before after = absurd before
 keeps-along names (Some old) (Some mid) None before after = after
 keeps-along names (Some old) (Some mid) (Some new) before after = λ other apart. after other apart ∙ before other apart
 
--- the name is one of these
-abbrev IsOneOf : List (List ℕ) → List ℕ → Type 0
-IsOneOf names name = (k : ℕ) × (k < length names) × (get_or names k name ≡ name)
-
--- where no name changed but this one
-keeps-but : (names : List (List ℕ)) (name : List ℕ) → IsOneOf names name → (old new : Option Held) → OthersSame old new name → KeepsOthers names old new
-keeps-but names name one None None same = tt
-keeps-but names name one None (Some new) same = same
-keeps-but names name one (Some old) None same = same
-keeps-but names name one (Some old) (Some new) same = λ other apart. same other (subst (λ (n : List ℕ). bytes_eq other n ≡ false) one.2 (apart one.0 name one.1))
-
-the-first : (name : List ℕ) (names : List (List ℕ)) → IsOneOf (name ∷ names) name
+the-first : (name : List ℕ) (names : List (List ℕ)) → Contains (name ∷ names) name
 the-first name names = (0, omega arith, refl)
 
-the-last : (before : Option (List ℕ)) (name : List ℕ) → IsOneOf (option_to_list before ++ name ∷ []) name
+the-last : (before : Option (List ℕ)) (name : List ℕ) → Contains (option_to_list before ++ name ∷ []) name
 the-last None name = (0, omega arith, refl)
 the-last (Some other) name = (1, omega arith, refl)
-
-put-others : (old : Option Held) (name bytes : List ℕ) → OthersSame old (put_name old name bytes) name
-put-others None name bytes = tt
-put-others (Some held) name bytes = λ other apart. ap (λ (b : Bool). cond b (Some bytes) (held other)) apart
-
-saved-others : (name bytes : List ℕ) (old new : FilesState) → IsSaved name bytes old new → OthersSame old.contents new.contents name
-saved-others name bytes old new save = subst (λ (o : Option Held). OthersSame old.contents o name) (sym save.contents) (put-others old.contents name bytes)
 
 -- ---- what is told, with the names that are saved and loaded
 
@@ -172,13 +149,13 @@ checks x _ _ (not_checked e refuses) = inr refl
 
 -- ---- `format`
 
-told_not_saved : (saves loads : List (List ℕ)) (name : List ℕ) → IsOneOf saves name → (old mid new : FilesState) (status : ℕ) (text : List ℕ) → KeepsOthers saves old.contents mid.contents → mid.faults ≡ old.faults → IsNotSaved name mid new status text → Told saves loads Nothing Nothing Nothing old new status
+told_not_saved : (saves loads : List (List ℕ)) (name : List ℕ) → Contains saves name → (old mid new : FilesState) (status : ℕ) (text : List ℕ) → KeepsOthers saves old.contents mid.contents → mid.faults ≡ old.faults → IsNotSaved name mid new status text → Told saves loads Nothing Nothing Nothing old new status
 told_not_saved saves loads name one old mid new _ _ kept before (save_failed other rose taken tried) =
     failed saves loads old new (keeps-along saves old.contents mid.contents new.contents kept (keeps-but saves name one mid.contents new.contents other)) (inl (subst (λ (n : ℕ). Rose n new.faults) before rose))
 told_not_saved saves loads name one old mid new _ _ kept before (save_memory same faults taken tried) =
     memory saves loads old new (keeps-along saves old.contents mid.contents new.contents kept (keeps saves mid new same)) (faults ∙ before)
 
-told_saved : (saves loads : List (List ℕ)) (name bytes : List ℕ) → IsOneOf saves name → (old mid new : FilesState) → KeepsOthers saves old.contents mid.contents → mid.faults ≡ old.faults → TakesUpTo (length loads) old.taken mid.taken → IsSaved name bytes mid new → Told saves loads Nothing Nothing Nothing old new 0
+told_saved : (saves loads : List (List ℕ)) (name bytes : List ℕ) → Contains saves name → (old mid new : FilesState) → KeepsOthers saves old.contents mid.contents → mid.faults ≡ old.faults → TakesUpTo (length loads) old.taken mid.taken → IsSaved name bytes mid new → Told saves loads Nothing Nothing Nothing old new 0
 told_saved saves loads name bytes one old mid new kept before takes save =
     made saves loads old new (keeps-along saves old.contents mid.contents new.contents kept (keeps-but saves name one mid.contents new.contents (saved-others name bytes mid new save))) (save.faults ∙ before)
     (subst (λ (n : ℕ). TakesUpTo (length loads) old.taken n) (sym save.taken) takes)

@@ -6,6 +6,7 @@ use Rattle.mq_command_run.specs.RunsScripts.{RefusesRunning, RefusesScript, Refu
 use Rattle.mq_command_run.specs.RunsScripts as runs
 use Rattle.mq_command_io.specs.Ending.{EndsWith, IsNotLoaded, IsNotSaved, SaysOf, load_failed, load_memory, load_too_long, save_failed, save_memory}
 use Rattle.mq_command_io.specs.Ending as ending
+use Rattle.mq_command_io.proofs.Ending.{said_or}
 use Rattle.mq_image.specs.File.{DriveImage}
 use Rattle.mq_outside.specs.Outside.{FilesState, SinkState, appended}
 use Rattle.mq_script.specs.Scripts.{Script}
@@ -14,7 +15,6 @@ use Rattle.mq_cli.specs.declared.command.RunFlags.{RunFlags}
 use Rattle.mqfs.specs.Program.{IsToSay, no_command, no_memory, of_command}
 use Rattle.mqfs.specs.Ran.{IsRan}
 use Rattle.mqfs.specs.Says.{Says, run_options}
-use Rattle.mqfs.proofs.ProgramEndings.{said_or}
 
 -- the status of a run that was saved
 abbrev IsRunStatus : ℕ → Type 0
@@ -86,7 +86,7 @@ module _ (image : List ℕ) (names : List (List ℕ)) (options : RunFlags) (file
   ran_words words _ _ asks (no_memory same) good out = absurd (elim good [ inl e ↦ omega (arith, e) | inr e ↦ omega (arith, e) ])
 
   pub ran_told : (words : Words) (status : ℕ) (text : List ℕ) (result : ℕ) → asked_of words ≡ Some (run image names options) → IsToSay words files new_files status text → EndsWith status text result old new → IsRunStatus result → IsRan image names options result files new_files old new
-  ran_told words status text result asks say ends good = elim (said_or words files new_files status text result old new say ends) [
+  ran_told words status text result asks say ends good = elim (said_or status text result old new ends) [
     | inl e ↦ subst (λ (s : ℕ). IsRan image names options s files new_files old new) (sym e.0) (ran_words words status text asks say (subst IsRunStatus e.0 good) e.1)
     | inr e ↦ absurd (elim e [
       | inl four ↦ elim good [ inl z ↦ omega (arith, four, z) | inr z ↦ omega (arith, four, z) ]

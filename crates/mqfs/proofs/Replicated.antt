@@ -2,6 +2,7 @@
 -- and what it holds was said.
 use Rattle.std.proofs.Common.{◌≡◌, inl, inr, ℕ, List, Option, Some, sym, ◌∙◌, subst, arith}
 use Rattle.mq_command_io.specs.Ending.{EndsWith}
+use Rattle.mq_command_io.proofs.Ending.{said_or, not-saved-zero, not-loaded-zero}
 use Rattle.mq_command_replicate.specs.Replicates.{Replicates}
 use Rattle.mq_command_replicate.specs.Replicates as replicates
 use Rattle.mq_outside.specs.Outside.{FilesState, SinkState, appended}
@@ -9,15 +10,14 @@ use Rattle.mq_cli.specs.Asked.{Asked, Words, asked_of, replicate}
 use Rattle.mqfs.specs.Program.{IsToSay, no_command, no_memory, of_command}
 use Rattle.mqfs.specs.Replicated.{IsReplicated}
 use Rattle.mqfs.specs.Says.{Says}
-use Rattle.mqfs.proofs.ProgramEndings.{said_or, zero-or, zero-or-saved}
 
 module _ (file : List ℕ) (seed : Option ℕ) (save : Option (List ℕ)) (files new_files : FilesState) (old new : SinkState) where
   replicated_of : (status : ℕ) (text : List ℕ) → Replicates file save files new_files status text → status ≡ 0 → new.contents ≡ appended old.contents text → IsReplicated file save files new_files old new
   replicated_of _ _ (replicates.printed bytes lines x mid load is of saves) zero out =
       record { bytes = bytes; lines = lines; x = x; loaded = mid; holds = load.holds; same = load.contents; text = is; replica = of; saved = saves; said = out }
   replicated_of _ _ (replicates.refused bytes line cause load refuses) zero out = absurd (omega (arith, zero))
-  replicated_of status text (replicates.not_loaded not) zero out = absurd (zero-or file files new_files status text not zero)
-  replicated_of status text (replicates.not_saved bytes lines name mid asks load is not) zero out = absurd (zero-or-saved name mid new_files status text not zero)
+  replicated_of status text (replicates.not_loaded not) zero out = absurd (not-loaded-zero file files new_files status text not zero)
+  replicated_of status text (replicates.not_saved bytes lines name mid asks load is not) zero out = absurd (not-saved-zero name mid new_files status text not zero)
   replicated_of _ _ (replicates.wants_memory bytes load) zero out = absurd (omega (arith, zero))
 
   replicated_words : (words : Words) (status : ℕ) (text : List ℕ) → asked_of words ≡ Some (replicate file seed save) → IsToSay words files new_files status text → status ≡ 0 → new.contents ≡ appended old.contents text → IsReplicated file save files new_files old new
@@ -29,7 +29,7 @@ module _ (file : List ℕ) (seed : Option ℕ) (save : Option (List ℕ)) (files
   replicated_words words _ _ asks (no_memory same) zero out = absurd (omega (arith, zero))
 
   pub replicated_told : (words : Words) (status : ℕ) (text : List ℕ) (result : ℕ) → asked_of words ≡ Some (replicate file seed save) → IsToSay words files new_files status text → EndsWith status text result old new → result ≡ 0 → IsReplicated file save files new_files old new
-  replicated_told words status text result asks say ends zero = elim (said_or words files new_files status text result old new say ends) [
+  replicated_told words status text result asks say ends zero = elim (said_or status text result old new ends) [
     | inl e ↦ replicated_words words status text asks say (sym e.0 ∙ zero) e.1
     | inr e ↦ elim e [ inl four ↦ absurd (omega (arith, four, zero)) | inr six ↦ absurd (omega (arith, six, zero)) ]
   ]

@@ -3,7 +3,7 @@ use Rattle.std.specs.Prelude.{◌≡◌, ◌⊎◌, ◌≤◌, ℕ, ◌+◌, ◌
 use Rattle.mq_audit.specs.Traces.{IsMisread}
 use Rattle.mq_command_images.specs.Audits.{misread_line}
 use Rattle.mq_command_run.specs.RunsScripts.{Runs}
-use Rattle.mq_command_io.specs.Ending.{IsLoaded, TakesOver, memory_line}
+use Rattle.mq_command_io.specs.Ending.{IsLoaded, TakesOver, memory_line, HoldsTooMuch, TakesUpTo, KeepsOthers}
 use Rattle.mq_image.specs.File.{DriveImage}
 use Rattle.mq_loose_text.specs.Text as loose_text
 use Rattle.mq_outside.specs.Outside.{FilesState, Held, Holds, HoldsOver, SinkState, appended, load_limit}
@@ -141,32 +141,12 @@ abbrev pub saved_by : Option Asked → List (List ℕ)
 saved_by None = []
 saved_by (Some a) = saved_names a
 
--- After the names before it were loaded, one of these names holds more bytes than one load gives, and the
--- load of this name took more.
-abbrev pub HoldsTooMuch : List (List ℕ) → (old new : FilesState) → Type 0
-HoldsTooMuch [] old new = ⊥
-HoldsTooMuch (name ∷ names) old new =
-    (HoldsOver old.contents name × TakesOver old.taken new.taken)
-    ⊎ ((bytes : List ℕ) × (mid : FilesState) × IsLoaded name bytes old mid × HoldsTooMuch names mid new)
-
 abbrev pub IsTooLong : Words → (old new : FilesState) → Type 0
 IsTooLong words old new = HoldsTooMuch (loaded_by (asked_of words)) old new
-
--- the loads took at most what so many loads give
-abbrev pub TakesUpTo : (loads : ℕ) → (old new : ℕ) → Type 0
-TakesUpTo loads old new = (old ≤ new) × (new ≤ old + loads * load_limit)
 
 -- one load for each name that is loaded
 abbrev pub TakesFor : Words → (old new : FilesState) → Type 0
 TakesFor words old new = TakesUpTo (length (loaded_by (asked_of words))) old.taken new.taken
-
--- what each name holds that is none of these is as before
-abbrev pub KeepsOthers : (names : List (List ℕ)) → (old new : Option Held) → Type 0
-KeepsOthers names None None = Unit {0}
-KeepsOthers names None (Some new) = ⊥
-KeepsOthers names (Some old) None = ⊥
-KeepsOthers names (Some old) (Some new) =
-    (other : List ℕ) → All (λ name. bytes_eq other name ≡ false) names → new other ≡ old other
 
 -- no name changes but those that are saved
 abbrev pub KeepsNames : Words → (old new : FilesState) → Type 0

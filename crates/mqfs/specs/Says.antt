@@ -11,7 +11,7 @@ use Rattle.mq_command_replicate.specs.Replicates.{Replicates}
 use Rattle.mq_command_run.specs.RunsScripts.{Runs}
 use Rattle.mq_command_images.specs.declared.formatting.Numbers.{Numbers}
 use Rattle.mq_command_run.specs.declared.workload.Workload.{Workload}
-use Rattle.mq_command_io.specs.Ending.{SaysOf}
+use Rattle.mq_command_io.specs.Ending.{SaysOf, SaysOnly}
 use Rattle.mq_image_run.specs.declared.options.Ending.{Ending}
 use Rattle.mq_image_run.specs.declared.options.Ending.TheVariants.{Checkpoint, Cut}
 use Rattle.mq_image_run.specs.declared.options.RunOptions.{RunOptions}
@@ -22,10 +22,6 @@ use Rattle.mq_cli.specs.Asked.{Asked, audit, blocks, cat, check, dump, format, g
 use Rattle.mq_cli.specs.Help.{help_text, version_line}
 use Rattle.mq_cli.specs.declared.command.FailingCommand.{FailingCommand}
 use Rattle.mq_cli.specs.declared.command.RunFlags.{RunFlags}
-
--- this text, and no file is looked at
-pub data SaysOnly (line : List ℕ) (old new : FilesState) : (status : ℕ) → (text : List ℕ) → Type 0 where
-  said : new ≡ old → SaysOnly line old new 0 line
 
 abbrev pub numbers : (queues area meta zone : ℕ) → Numbers
 numbers queues area meta zone = record { queues = queues; area = area; meta = meta; zone = zone }

@@ -1,6 +1,6 @@
 use Rattle.std.proofs.Common.{ap, ◌∙◌}
+use Rattle.mq_block_text.specs.Words.{words_of}
 use Rattle.mq_audit.specs.Events.{event_in_words}
-use Rattle.mq_audit.specs.Words.{words_of}
 use Rattle.mq_audit.proofs.Spelled.{event_again}
 use Rattle.mq_audit.proofs.SpelledBack.{event_spelled}
 use Rattle.mq_audit.proofs.laws.lines_spell_events.Goals as goal

@@ -9,4 +9,4 @@ use Rattle.mq_cli.proofs.read.bounded.Goals as goal
 
 pub returns-clause-reads : goal.returns-clause-reads
 returns-clause-reads c =
-    reads_as c.number_in_bounds.result (number_from c.args.least c.args.limit) (option_map (λ s. s.now) c.found.result) (first_of c.args.id.now (rows_of (found_of c.args.matches.now))) (λ (e : WordsRefusal). e ≡ Unknown) c.found.ensures c.number_in_bounds.ensures.reads
+    reads_as c.number_in_bounds.result (number_from c.args.least c.args.limit) (option_map (λ s. s.now) c.found_word.result) (first_of c.args.id.now (rows_of (found_of c.args.matches.now))) (λ (e : WordsRefusal). e ≡ Unknown) c.found_word.ensures c.number_in_bounds.ensures.reads

@@ -9,4 +9,4 @@ use Rattle.mq_cli.proofs.read.word.Goals as goal
 
 pub returns : goal.returns
 returns c =
-    reads_as c.geometry_word.result word_in (option_map (λ s. s.now) c.found.result) (first_of c.args.id.now (rows_of (found_of c.args.matches.now))) (λ (e : WordsRefusal). e ≡ Unknown) c.found.ensures c.geometry_word.ensures
+    reads_as c.geometry_word.result word_in (option_map (λ s. s.now) c.found_word.result) (first_of c.args.id.now (rows_of (found_of c.args.matches.now))) (λ (e : WordsRefusal). e ≡ Unknown) c.found_word.ensures c.geometry_word.ensures

@@ -1,30 +1,23 @@
-use Rattle.std.proofs.Common.{◌≡◌, ◌∙◌, inl, inr, refl, sym, ap, map}
+use Rattle.std.proofs.Common.{◌≡◌, ◌≢◌, ◌⊎◌, ◌∙◌, [], ap, map, subst}
+use Rattle.std.specs.Prelude.{IfErr, IfOk}
 use Rattle.std.specs.String.{string_bytes}
-use Rattle.clap.specs.Words.{App, app_of, fault_of, is_simple, is_simple_and_free, kind_of, matches_of}
-use Rattle.mq_kv_cli.specs.Syntax.{app_for}
-use Rattle.mq_cli.proofs.SyntaxApps.{some_kind}
+use Rattle.clap.specs.Words.{App, fault_of, found_of, is_simple, is_simple_and_free, matches_of, rows_of}
+use Rattle.mq_cli.specs.declared.refusal.WordsRefusal.TheVariants.{OutOfMemory, Unknown}
 use Rattle.mq_kv_cli.proofs.SyntaxApps.{simple, simple_and_free}
 use Rattle.mq_kv_cli.proofs.parse.parse.Goals as goal
 
-pub returns-in-Ok-clause-taken : goal.returns-in-Ok-clause-taken
-returns-in-Ok-clause-taken c =
-    let is : app_of c.in_ok-command.command ≡ app_for c.args.verb = c.in_ok-command.ensures in
-    ap (λ (a : App). fault_of a (map string_bytes c.args.words.now)) (sym is) ∙ c.in-Ok.ensures.kinds (ap is_simple_and_free is ∙ simple_and_free c.args.verb)
+pub parse_words-requires-clause-free : goal.parse_words-requires-clause-free
+parse_words-requires-clause-free c = ap is_simple_and_free c.in_ok-command.ensures ∙ simple_and_free c.args.verb
 
-pub returns-in-Ok-clause-rows : goal.returns-in-Ok-clause-rows
-returns-in-Ok-clause-rows c =
-    let is : app_of c.in_ok-command.command ≡ app_for c.args.verb = c.in_ok-command.ensures in
-    (c.in-Ok.ensures.matches (ap is_simple is ∙ simple c.args.verb)).0 ∙ ap (λ (a : App). matches_of a (map string_bytes c.args.words.now)) is
+pub parse_words-requires-clause-simple : goal.parse_words-requires-clause-simple
+parse_words-requires-clause-simple c = ap is_simple c.in_ok-command.ensures ∙ simple c.args.verb
 
-pub returns : goal.returns
-returns c =
-    let is : app_of c.in_ok-command.command ≡ app_for c.args.verb = c.in_ok-command.ensures in
-    let fails = c.in-Err.ensures.kinds (ap is_simple_and_free is ∙ simple_and_free c.args.verb) in
-    record {
-      taken = tt;
-      rows = tt;
-      refused = elim fails [
-        | inl memory ↦ absurd (c.in_default.not-OutOfMemory (c.kind.ensures ∙ memory))
-        | inr among ↦ inr (refl, λ none. some_kind (kind_of c.in-Err.error) (fault_of (app_of c.in_ok-command.command) (map string_bytes c.args.words.now)) among (ap (λ (a : App). fault_of a (map string_bytes c.args.words.now)) is ∙ none))
-      ];
-    }
+pub returns-clause-taken : goal.returns-clause-taken
+returns-clause-taken c = subst (λ (a : App). IfOk c.parse_words.result (λ _. fault_of a (map string_bytes c.args.words.now) ≡ [])) c.in_ok-command.ensures c.parse_words.ensures.taken
+
+pub returns-clause-rows : goal.returns-clause-rows
+returns-clause-rows c = subst (λ (a : App). IfOk c.parse_words.result (λ m. rows_of (found_of m) ≡ matches_of a (map string_bytes c.args.words.now))) c.in_ok-command.ensures c.parse_words.ensures.rows
+
+pub returns-clause-refused : goal.returns-clause-refused
+returns-clause-refused c =
+    subst (λ (a : App). IfErr c.parse_words.result (λ e. (e ≡ OutOfMemory) ⊎ ((e ≡ Unknown) × (fault_of a (map string_bytes c.args.words.now) ≢ [])))) c.in_ok-command.ensures c.parse_words.ensures.refused

@@ -1,6 +1,6 @@
 use Rattle.std.proofs.Common.{refl}
+use Rattle.mq_command_io.specs.Ending.{said}
 use Rattle.mq_kv_cli.specs.Help.{help_text, version_line}
-use Rattle.mq_kv_tool.specs.Says.{said}
 use Rattle.mq_kv_tool.proofs.program.run.Goals as goal
 
 pub returns-in-Help-clause-ends : goal.returns-in-Help-clause-ends

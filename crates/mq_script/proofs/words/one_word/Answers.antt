@@ -1,5 +1,6 @@
 use Rattle.std.proofs.Common.{◌∷◌, ◌∙◌, ap, sym}
-use Rattle.mq_script.specs.Words.{words_after, one_of}
+use Rattle.mq_block_text.specs.Words.{one_of}
+use Rattle.mq_script.specs.Words.{words_after}
 use Rattle.mq_script.proofs.WordsCutting.{one_of_more}
 use Rattle.mq_script.proofs.words.one_word.Goals as goal
 

@@ -1,10 +1,11 @@
 use Rattle.std.proofs.Common.{◌<◌, ◌^◌, List, Option, ℕ, Bor, IfSome, map, refl, sym, subst, arith}
+use Rattle.mq_command_io.specs.Ending.{said}
 use Rattle.mq_command_images.specs.Recovers.{Recovers}
 use Rattle.mq_command_run.specs.RunsScripts.{Runs}
 use Rattle.mq_cli.specs.Asked.{HasSmallNumbers, number_end}
 use Rattle.mq_cli.specs.Help.{help_text, version_line}
 use Rattle.mqfs.specs.Decided.{IsRunnable, RunDecides}
-use Rattle.mqfs.specs.Says.{numbers, run_options, said}
+use Rattle.mqfs.specs.Says.{numbers, run_options}
 use Rattle.mqfs.proofs.Decided.{chains_decided, file_decided, numbers_decided, standing_decided, trace_decided, tree_decided}
 use Rattle.mqfs.proofs.program.run.Goals as goal
 

@@ -1,5 +1,0 @@
-use Rattle.mq_audit.proofs.WordsDigits.{byte_is}
-use Rattle.mq_audit.proofs.words.byte_of.Goals as goal
-
-pub returns : goal.returns
-returns c = byte_is c.args.high c.args.low c.read_hex.result c.read_hex.ensures.found c.read_hex.ensures.only
