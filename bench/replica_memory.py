@@ -32,7 +32,7 @@ import quick_build  # noqa: E402
 from memory import link_heap, options  # noqa: E402
 
 CRATES = "mq_blocks mq_drive mq_image mq_image_ops mq_ledger mq_recover mq_replica".split()
-MODULES = os.path.join(TOP, "crates", "mq_test_replica", "src")
+MODULES = os.path.join(TOP, "tests", "replica")
 # The parts of an offer, each with the function that begins it
 PARTS = {
     "before the recovery": "mq_replica::replica::Replica+P::offer::",
@@ -65,8 +65,8 @@ def build(out):
     with tempfile.TemporaryDirectory(prefix="replica-memory-") as folder:
         os.mkdir(f"{folder}/src")
         shutil.copyfile(os.path.join(OWN, "replica_memory", "main.rattle"), f"{folder}/src/main.rt")
-        for name in ("images.rt", "updates.rt"):
-            shutil.copy(os.path.join(MODULES, name), f"{folder}/src")
+        for name in ("images", "updates"):
+            shutil.copyfile(os.path.join(MODULES, f"{name}.rattle"), f"{folder}/src/{name}.rt")
         module = quick_build.lowered("replica", f"{folder}/src/main.rt", quick_build.libraries((TOP, CRATES)), folder)
         text = f"{folder}/module.ll"
         quick_build.compile_module(module, ["-S", "-emit-llvm", "-O0", "-Xclang", "-disable-llvm-passes"], text)

@@ -6,6 +6,7 @@
 - Each relative link of a document leads to a file, and to a heading where it names one.
 - Each wrong change that docs/THEOREM.md names is an edit in `must-fail/` of a crate that its row names.
 - The calls that README.md shows, with their outputs, stand one after another in what the tables of cases come to.
+- The maps of the crates are those that docs/maps.py makes of crates.txt.
 - README.md, docs/DECISIONS.md and all prose together keep their sizes.
 
 Prints a line for each fault. The status is 1 where there is one.
@@ -13,6 +14,8 @@ Prints a line for each fault. The status is 1 where there is one.
 import os
 import re
 import sys
+
+import maps
 
 TOP = os.path.dirname(os.path.dirname(os.path.realpath(__file__)))
 PROVED = "docs/PROVED.md"
@@ -220,7 +223,7 @@ def faults_of_sizes():
 
 def main():
     """Prints all faults."""
-    faults = [*faults_of_proved(), *faults_of_changes(), *faults_of_demo(), *faults_of_sizes()]
+    faults = [*faults_of_proved(), *faults_of_changes(), *faults_of_demo(), *maps.faults(), *faults_of_sizes()]
     for path in documents():
         faults += [*faults_of_quotes(path), *faults_of_links(path)]
     for fault in faults:

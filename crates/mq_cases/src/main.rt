@@ -2,13 +2,7 @@
 //! what each of them comes to. The tables are the files that the program's words name.
 #![tactic(auto)]
 
-#[cfg(test)]
-mod gates;
 mod line;
-#[cfg(test)]
-mod program;
-#[cfg(test)]
-mod report;
 mod spelled;
 mod table;
 

@@ -1,8 +1,6 @@
-//! The tests of files and sinks, in memory and of the system.
+//! Files that list the names that were to be loaded, for tests.
 #![tactic(auto)]
 
 mod listed;
-#[cfg(test)]
-mod tests;
 
 pub use listed::ListedFiles;

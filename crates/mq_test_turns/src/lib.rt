@@ -1,5 +1,6 @@
-//! Threads that draw numbers at a desk, take sides and count votes on them.
+//! A machine whose entries are votes, for tests of the desk at which threads draw numbers.
 #![tactic(auto)]
 
-#[cfg(test)]
 mod votes;
+
+pub use votes::{Counting, Opened, Port, QueueSide, Round, Vote, Word, cast, opened};

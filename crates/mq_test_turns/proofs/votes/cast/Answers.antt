@@ -1,7 +1,7 @@
 use Rattle.std.proofs.Common.{rules, arith, ◌≡◌, ◌≤◌, ◌+◌, ◌∙◌, ap, sym, refl, suc, ℕ, ◌∷◌}
 use Rattle.mq_turns.specs.AtDesk.{view, start_of}
 use Rattle.mq_test_turns.proofs.SweptFronts.{front_kept}
-use Rattle.mq_test_turns.proofs.Counting.{OnSide, mine, side_given, side_taken, side_same, side_cleared, side_covers, side_drawn, side_stands}
+use Rattle.mq_test_turns.proofs.VoteLaws.{OnSide, mine, side_given, side_taken, side_same, side_cleared, side_covers, side_drawn, side_stands}
 use Rattle.mq_test_turns.proofs.votes.cast.Goals as goal
 
 pub draw-number-requires-clause-may : goal.draw-number-requires-clause-may

@@ -1,6 +1,6 @@
 use Rattle.std.proofs.Common.{rules, ◌≤◌, sym, subst}
 use Rattle.mq_turns.specs.Desk.{allotment}
-use Rattle.mq_test_turns.proofs.Counting.{count_starts, allots}
+use Rattle.mq_test_turns.proofs.VoteLaws.{count_starts, allots}
 use Rattle.mq_test_turns.proofs.votes.opened.Goals as goal
 
 pub new-requires-2-clause-starts : goal.new-requires-2-clause-starts

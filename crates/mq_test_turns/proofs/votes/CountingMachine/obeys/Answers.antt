@@ -1,4 +1,4 @@
-use Rattle.mq_test_turns.proofs.Counting.{laws}
+use Rattle.mq_test_turns.proofs.VoteLaws.{laws}
 use Rattle.mq_test_turns.specs.declared.votes.Vote.{Vote}
 use Rattle.mq_test_turns.proofs.votes.CountingMachine.obeys.Goals as goal
 

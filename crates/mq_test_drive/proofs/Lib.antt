@@ -1,2 +1,0 @@
-mod CommitsSending
-mod DescriptorChanges

@@ -1,2 +1,0 @@
-pub mod LaidMaps
-pub mod LiftedCells
