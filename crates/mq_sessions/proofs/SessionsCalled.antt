@@ -146,6 +146,17 @@ module _ {P E : Type 0} {G : Ghosts P} (group : GroupView E) where
       subst (λ (x : ℕ). IsReady group g x m new v) (sym queue)
       (subst (λ (x : ℕ). IsReady group g q x new v) (sym calls) (subst (λ (x : HeldCells). IsReady group g q n x v) (sym held) ready))
 
+  -- it was told of a number
+  pub ready-told : (g : Geometry) (q n k : ℕ) (cells : HeldCells) (v : Seat P E G) → IsReady group g q n cells v → IsReady group g q n cells (record v { seen = k })
+  ready-told g q n k cells v ready = record {
+    queue = ready.queue;
+    own = ready.own;
+    idle = ready.idle;
+    called = record { drawn = ready.called.drawn; read = ready.called.read; few = ready.called.few };
+    none = ready.none;
+    room = ready.room;
+  }
+
   -- once it has left
   pub ready-left : (g : Geometry) (q n k : ℕ) (old new : HeldCells) (v w : Seat P E G) → IsReady group g q n old v → HasLeft old new v w → HasCalled group k w → IsReady group g q k new w
   ready-left g q n k old new v w ready left called = record {

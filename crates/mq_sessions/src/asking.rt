@@ -73,9 +73,15 @@ pub fn ask<P: Port + Drop, G: Executor, R: Wait>(
         &mut session.wanted,
         &mut session.held,
     )?;
-    let chair = &mut session.chair;
-    let held = &mut session.held;
-    let at = read_group(alloc, desk, chair, geometry, &asked, held, &done)?;
+    let at = read_group(
+        alloc,
+        desk,
+        &mut session.chair,
+        geometry,
+        &asked,
+        &mut session.held,
+        &done,
+    )?;
     let (replies, _, _) = G::parts(done);
     Ok(Answer {
         at,

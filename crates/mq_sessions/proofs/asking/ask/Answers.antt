@@ -1,4 +1,4 @@
-use Rattle.std.proofs.Common.{◌∙◌, List, ap, inl, refl, subst, sym}
+use Rattle.std.proofs.Common.{◌∙◌, List, inl, refl, subst, sym}
 use Rattle.std.specs.Prelude.{false}
 use Rattle.mq_turns.specs.AtDesk.{start_of, view}
 use Rattle.mq_sessions.specs.Attempts.{ReadsOnly}
@@ -6,7 +6,7 @@ use Rattle.mq_sessions.specs.Calls.{call_by}
 use Rattle.mq_sessions.proofs.Attempts.{goes-at-once, goes-read, goes-same, goes-then}
 use Rattle.mq_sessions.proofs.AttemptsComposing.{acts-same, only-read}
 use Rattle.mq_sessions.proofs.ExecutorsNow.{possible-now}
-use Rattle.mq_sessions.proofs.SessionsCalled.{keeps-at-once, ready-again, ready-read}
+use Rattle.mq_sessions.proofs.SessionsCalled.{keeps-all, keeps-at-once, ready-again, ready-read}
 use Rattle.mq_sessions.proofs.WantedFurther.{same-then}
 use Rattle.mq_sessions.proofs.asking.ask.Goals as goal
 
@@ -28,6 +28,15 @@ read_group-requires-clause-undrawn g c =
 
 -- ---- it is refused
 
+pub returns-in_err-done-clause-ready : goal.returns-in_err-done-clause-ready
+returns-in_err-done-clause-ready g c =
+    let s = c.args.session.now in
+    let idle = c.in_err-done.ensures.idle in
+    ready-again g.G.Groups.group c.args.geometry s.queue s.calls s.held c.run_held.new.held (view s.chair) (view c.run_held.new.chair) c.requires.ready c.run_held.ensures.same idle.0 idle.1 c.run_held.ensures.room
+
+pub returns-in_err-done-clause-refused : goal.returns-in_err-done-clause-refused
+returns-in_err-done-clause-refused g c = keeps-all (view c.args.session.now.chair) (view c.run_held.new.chair) c.run_held.ensures.same
+
 pub returns-in_err-done-clause-goes : goal.returns-in_err-done-clause-goes
 returns-in_err-done-clause-goes g c = goes-same (view c.args.session.now.chair) (view c.run_held.new.chair) c.run_held.ensures.same
 
@@ -45,6 +54,12 @@ returns-in_err-at-clause-goes g c =
     let v = view c.args.session.now.chair in
     let w = view c.read_group.new.chair in
     goes-same v w (same-then v (view c.run_held.new.chair) w c.run_held.ensures.same c.in_err-at.ensures.same)
+
+pub returns-in_err-at-clause-refused : goal.returns-in_err-at-clause-refused
+returns-in_err-at-clause-refused g c =
+    let v = view c.args.session.now.chair in
+    let w = view c.read_group.new.chair in
+    keeps-all v w (same-then v (view c.run_held.new.chair) w c.run_held.ensures.same c.in_err-at.ensures.same)
 
 -- ---- it is read
 
