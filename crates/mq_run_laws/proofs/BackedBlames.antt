@@ -10,7 +10,7 @@ use Rattle.mq_calls.specs.Acts.{Call, IsRefusedFor, RefusalCause, turned_down, n
 use Rattle.mq_calls.specs.Asking.{IsNotAnswered, memory as no_memory, changes}
 use Rattle.mq_calls.specs.Synchronizing.{IsNotDurableFor, before as refused_before, after as refused_after}
 use Rattle.mq_queue_side.specs.declared.answers.CallCause.{CallCause}
-use Rattle.mq_queue_side.specs.declared.answers.CallCause.TheVariants.{Drive}
+use Rattle.mq_queue_side.specs.declared.answers.CallCause.TheVariants.{Drive, OutOfMemory, TooLarge}
 use Rattle.mq_queue_side.specs.declared.answers.Refusal.{Refusal}
 use Rattle.mq_journal.specs.Raised.{HasRefused}
 use Rattle.mq_journal.specs.declared.refusal.CheckpointRefusal.TheVariants as checkpoint
@@ -67,8 +67,8 @@ module _ {P : Type 0} {G : Ghosts P} (state : P → PortState) (faults : P → L
   -- ---- a group that was refused
 
   turned : (c : Call) (old new : Seat P FileEntry G) (why : RefusalCause) (drawn : Option ℕ) (cause : Cause) → cause_as why ≡ Drive cause → IsTurnedDown state faults g c old new why drawn → IsCharged cause new.reading.charged
-  turned c old new _ _ cause is (memory keeps) = absurd (cc)
-  turned c old new _ _ cause is (too_large large) = absurd (cc)
+  turned c old new _ _ cause is (memory keeps) = let named : OutOfMemory ≡ Drive cause = is in absurd (cc)
+  turned c old new _ _ cause is (too_large {count = k} {limit = m} large) = let named : TooLarge k m ≡ Drive cause = is in absurd (cc)
   turned c old new _ _ cause is (before {why = w} refuses) = subst (λ (x : Cause). IsCharged x new.reading.charged) (same-cause w cause is) (Side c.session, first-of (charge_for (Side c.session) w) old.reading.charged new.reading.charged refuses.charged)
   turned c old new _ _ cause is (cut h) = subst (λ (x : Cause). IsCharged x new.reading.charged) (same-cause Off cause is) (Side c.session, first-of (charge_for (Side c.session) Off) old.reading.charged new.reading.charged h.commits.charged)
 
@@ -78,7 +78,7 @@ module _ {P : Type 0} {G : Ghosts P} (state : P → PortState) (faults : P → L
 
   refused : (c : Call) (old new : Seat P FileEntry G) (why : RefusalCause) (drawn : Option ℕ) (cause : Cause) → cause_as why ≡ Drive cause → IsRefusedFor state faults g c old new why drawn → IsCharged cause new.reading.charged
   refused c old new why drawn cause is (turned_down {from = from} run_at down) = turned c from new why drawn cause is down
-  refused c old new _ _ cause is (no_room checkpoint.OutOfMemory full has) = absurd (cc)
+  refused c old new _ _ cause is (no_room checkpoint.OutOfMemory full has) = let named : OutOfMemory ≡ Drive cause = is in absurd (cc)
   refused c old new _ _ cause is (no_room (checkpoint.Drive w) {between = mid} full has) = subst (λ (x : Cause). IsCharged x new.reading.charged) (same-cause w cause is) (checkpoint-charged w mid new has)
 
   not-durable : (c : Call) (old new : Seat P FileEntry G) (why : RefusalCause) (drawn : Option ℕ) (cause : Cause) → cause_as why ≡ Drive cause → IsNotDurableFor state faults g c old new why drawn → IsCharged cause new.reading.charged
