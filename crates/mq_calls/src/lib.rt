@@ -14,8 +14,6 @@ mod lists;
 mod machine;
 mod mounting;
 mod opening;
-mod planning;
-mod rounds;
 mod session;
 mod settling;
 mod telling;
