@@ -2,8 +2,6 @@
 //! what each of them comes to. The tables are the files that the program's words name.
 #![tactic(auto)]
 
-mod line;
-mod spelled;
 mod table;
 
 use crate::table::Table;

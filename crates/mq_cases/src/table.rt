@@ -1,7 +1,6 @@
 // Following the lines of a table.
-use crate::line::{Change, Line, LineRefusal, Program, Question, Shown, read_line};
-use crate::spelled::sum_of;
 use mq_calls::Open;
+use mq_case_lines::{Change, Line, LineRefusal, Program, Question, Shown, read_line, sum_of};
 use mq_kv_tool::kv;
 use mq_outside::{Files, MemFiles, MemSink, SaveRefusal};
 use mqfs::mqfs;
