@@ -1,5 +1,5 @@
 // The calls of a session that change something.
-ghost use Rattle.std.specs.Prelude.{◌≡◌, ◌+◌, ◌<◌, ◌≤◌, IfErr, IfOk, OnOk, [], None, length, true};
+ghost use Rattle.std.specs.Prelude.{◌≡◌, ◌+◌, ◌<◌, ◌≤◌, IfErr, IfOk, OnOk, [], None, false, length, true};
 ghost use Rattle.mq_blocks.specs.Geometry.{homes_of, queues_of};
 ghost use Rattle.mq_desk_laws.specs.Rule.{shape_of};
 ghost use Rattle.mq_journal.specs.Sweeping.{HasSwept};

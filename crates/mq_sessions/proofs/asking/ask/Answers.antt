@@ -1,6 +1,8 @@
 use Rattle.std.proofs.Common.{◌∙◌, List, inl, refl, subst, sym}
-use Rattle.std.specs.Prelude.{false}
+use Rattle.std.proofs.lemmas.Result.{MatchResult-from_err}
+use Rattle.std.specs.Prelude.{false, ⊤}
 use Rattle.mq_turns.specs.AtDesk.{start_of, view}
+use Rattle.mq_sessions.specs.Acts.{KeepsAll}
 use Rattle.mq_sessions.specs.Attempts.{ReadsOnly}
 use Rattle.mq_sessions.specs.Calls.{call_by}
 use Rattle.mq_sessions.proofs.Attempts.{goes-at-once, goes-read, goes-same, goes-then}
@@ -35,7 +37,10 @@ returns-in_err-done-clause-ready g c =
     ready-again g.G.Groups.group c.args.geometry s.queue s.calls s.held c.run_held.new.held (view s.chair) (view c.run_held.new.chair) c.requires.ready c.run_held.ensures.same idle.0 idle.1 c.run_held.ensures.room
 
 pub returns-in_err-done-clause-refused : goal.returns-in_err-done-clause-refused
-returns-in_err-done-clause-refused g c = keeps-all (view c.args.session.now.chair) (view c.run_held.new.chair) c.run_held.ensures.same
+returns-in_err-done-clause-refused g c =
+    let v = view c.args.session.now.chair in
+    let w = view c.run_held.new.chair in
+    MatchResult-from_err c.from_residual.result (λ x. ⊤) (λ e. KeepsAll v w) c.from_residual.ensures.0 (λ e. keeps-all v w c.run_held.ensures.same)
 
 pub returns-in_err-done-clause-goes : goal.returns-in_err-done-clause-goes
 returns-in_err-done-clause-goes g c = goes-same (view c.args.session.now.chair) (view c.run_held.new.chair) c.run_held.ensures.same
@@ -59,7 +64,8 @@ pub returns-in_err-at-clause-refused : goal.returns-in_err-at-clause-refused
 returns-in_err-at-clause-refused g c =
     let v = view c.args.session.now.chair in
     let w = view c.read_group.new.chair in
-    keeps-all v w (same-then v (view c.run_held.new.chair) w c.run_held.ensures.same c.in_err-at.ensures.same)
+    let same = same-then v (view c.run_held.new.chair) w c.run_held.ensures.same c.in_err-at.ensures.same in
+    MatchResult-from_err c.from_residual-in_err-at.result (λ x. ⊤) (λ e. KeepsAll v w) c.from_residual-in_err-at.ensures.0 (λ e. keeps-all v w same)
 
 -- ---- it is read
 
