@@ -5,8 +5,8 @@ use Rattle.std.specs.List.{All}
 use Rattle.std.proofs.lemmas.Bool.{cases_eq, cases_lt, false≢true}
 use Rattle.mq_tree.specs.Requests.{is_change}
 use Rattle.mq_tree.specs.declared.request.Request.{Request}
+use Rattle.mq_calls.specs.Acts.{Answer}
 use Rattle.mq_calls.specs.Asking.{IsFirstChange, refusal_at}
-use Rattle.mq_calls.specs.declared.answers.Answer.{Answer}
 use Rattle.mq_queue_side.specs.declared.answers.CallCause.TheVariants.{Changes, OutOfMemory}
 use Rattle.mq_queue_side.specs.declared.answers.Refusal.{Refusal}
 

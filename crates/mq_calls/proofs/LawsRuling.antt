@@ -3,14 +3,13 @@ use Rattle.std.proofs.Common.{◌≡◌, ℕ, ◌+◌, ◌≤◌, List, [], ◌�
 use Rattle.mq_blocks.specs.Journal.{number_limit}
 use Rattle.mq_calls.specs.Entries.{tx_of}
 use Rattle.mq_calls.specs.Group.{file_group}
-use Rattle.mq_calls.specs.EntryLaws.{DoneGroupsFit, DoneGroupsMay, DoneGroupsMayBeDrawn, PagesTellPlans}
+use Rattle.mq_calls.specs.EntryLaws.{DoneGroupsFit, DoneGroupsMay, DoneGroupsMayBeDrawn}
 use Rattle.mq_calls.specs.Plans.{HasNumber}
 use Rattle.mq_calls.specs.declared.entry.FileEntry.{FileEntry}
 use Rattle.mq_calls.proofs.Entries.{asks, does, plans}
 use Rattle.mq_ledger.specs.KnownJournal.{MayDraw}
 use Rattle.mq_desk_laws.specs.Rule.{core_of, geometry_of, history, map_now, numbered}
 use Rattle.mq_desk_laws.specs.Values.{Values}
-use Rattle.mq_sessions.proofs.PlansTold as told
 use Rattle.mq_turns.specs.Meaning.{newest}
 
 module _ {Q R : Type 0} (values : Values Q R FileEntry) where
@@ -31,6 +30,3 @@ module _ {Q R : Type 0} (values : Values Q R FileEntry) where
         does = does (geometry_of values file_group K) (map_now values file_group K) requests done e d is changes queue (plans k requests done e d is p);
         placed = p.placed;
       }
-
-  pub tells_plans : PagesTellPlans values
-  tells_plans = told.tells_plans values file_group

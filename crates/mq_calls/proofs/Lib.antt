@@ -1,15 +1,12 @@
 pub mod RunsFinding
 pub mod RequestsUnchanged
-pub mod PagesNotDrawn
-pub mod Sessions
 pub mod AskingFirstChange
 pub mod Acts
 pub mod OpeningCells
 pub mod ReversedLists
 pub mod OpeningVolume
-pub mod ActsComposing
 pub mod MountingVolumes
-pub mod Helping
 pub mod LawsChanging
 pub mod Entries
 pub mod LawsRuling
+pub mod Helping

@@ -3,10 +3,15 @@ use Rattle.std.proofs.Common.{◌≡◌, ℕ, suc, false, List, [], ◌∷◌, r
 use Rattle.std.specs.List.{All, Contains}
 use Rattle.std.proofs.lemmas.Bool.{false≢true}
 use Rattle.mq_blocks.specs.declared.geometry.Geometry.{Geometry}
+use Rattle.mq_calls.specs.Group.{file_group}
+use Rattle.mq_calls.specs.Runs.{file_calls}
 use Rattle.mq_exec.specs.Moves.{Moves}
 use Rattle.mq_exec.specs.Outcomes.{IsDone}
 use Rattle.mq_exec.specs.declared.outcome.Done.{Done}
+use Rattle.mq_inodes.specs.Pages.{held_pages}
+use Rattle.mq_inodes.proofs.PagesLifting.{laid-agrees}
 use Rattle.mq_pages.specs.declared.page.Write.{Write}
+use Rattle.mq_sessions.specs.Executors.{ChangesNothing}
 use Rattle.mq_tree.specs.Requests.{after_group, is_change}
 use Rattle.mq_tree.specs.Volume.{Volume}
 use Rattle.mq_tree.specs.declared.request.Request.{Request}
@@ -36,3 +41,7 @@ pub nothing-changes : (g : Geometry) (q : ℕ) (v : Volume) (requests : List Req
 nothing-changes g q v requests done reads is =
     let moves = subst (λ (w : Volume). Moves g v w done.writes.items done.frees.items) (group-same g q v requests reads) is.moves in
     (no-writes g v done.writes.items done.frees.items moves, no-frees g v done.writes.items done.frees.items moves)
+
+-- so it is on any pages
+pub reads-nothing : (g : Geometry) (q : ℕ) (requests : List Request) → All (λ r. is_change r ≡ false) requests → ChangesNothing file_group file_calls g q requests
+reads-nothing g q requests reads cells done possible on = nothing-changes g q possible.1.0 requests done reads (on.1 possible.1.0 (laid-agrees g possible.0 (held_pages cells) possible.1.0 possible.1.1 possible.2))

@@ -10,7 +10,7 @@ use Rattle.mq_exec.specs.declared.outcome.Done.{Done as Carried}
 use Rattle.mq_exec.specs.declared.outcome.Outcome.TheVariants.{Done}
 use Rattle.mq_calls.specs.Group.{file_group}
 use Rattle.mq_calls.specs.declared.entry.FileEntry.{FileEntry}
-use Rattle.mq_inodes.specs.Fits.{Agrees, IsPossible}
+use Rattle.mq_inodes.specs.Fits.{Agrees}
 use Rattle.mq_inodes.specs.Pages.{held_pages}
 use Rattle.mq_inodes.proofs.PagesLifting.{laid-agrees}
 use Rattle.mq_pages.specs.Held.{Cells}
@@ -29,7 +29,7 @@ use Rattle.mq_turns.specs.Meaning.{Meaning}
 use Rattle.mq_turns.specs.declared.rule.Opening.{Opening}
 use Rattle.mq_turns.specs.declared.rule.ChairView.{ChairView}
 use Rattle.mq_turns.proofs.DeskSeen.{opening_seen}
-use Rattle.mq_sessions.specs.Pages.{HoldsPages, IsSeen}
+use Rattle.mq_sessions.specs.Pages.{HoldsPages}
 use Rattle.mq_calls.specs.Runs
 use Rattle.mq_calls.specs.Runs.{IsDoneOnHeld}
 use Rattle.mq_sessions.proofs.PagesHolding.{cells-now}
@@ -55,9 +55,6 @@ module _ {P : Type 0} {G : Ghosts P} (state : P → PortState) (faults : P → L
         let w = good_now V file_group K s.ok in
         let laid : IsLaid g (map_now V file_group K) w.0 = subst (λ (x : Geometry). IsLaid x (map_now V file_group K) w.0) (shape-is K s) w.1 in
         (w.0, laid, laid-agrees g (map_now V file_group K) (held_pages cells) w.0 laid (map-now K s))
-
-    pub possible-now : IsSeen μ v → IsPossible g (held_pages cells)
-    possible-now seen = let a = agrees-now seen.0 seen.1 in (a.0, a.2)
 
     pub done-now : (q : ℕ) (requests : List Request) (done : Carried) → Answers g q (held_pages cells) requests (Done done) → IsDoneOnHeld state faults q requests cells v done
     done-now q requests done answers = record {

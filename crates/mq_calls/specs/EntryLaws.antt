@@ -18,7 +18,6 @@ use Rattle.mq_revoke.specs.declared.placement.Planned.{Planned}
 use Rattle.mq_desk_laws.specs.Rule.{DeskState, Fits, May, core_of, geometry_of, map_now, numbered}
 use Rattle.mq_desk_laws.specs.Values.{Values}
 use Rattle.mq_queue_side.specs.Commits.{IsPlanOf, commit_by, commit_of_tx}
-use Rattle.mq_sessions.specs.Plans as sessions
 pub use Rattle.mq_sessions.specs.Drawn.{PagesStayBelow, blocks_in}
 use Rattle.mq_tree.specs.declared.request.Request.{Request}
 use Rattle.mq_turns.specs.Meaning.{newest}
@@ -118,9 +117,3 @@ module _ {Q R : Type 0} (values : Values Q R FileEntry) where
       → IsUndrawn (geometry_of values file_group K) done.writes.items done.frees.items
       → IsAllLogged e
       → Fits values file_group e K
-
-  -- ---- what a plan is made of
-
-  -- the cells of the pages that a session holds are what the rule of placing asks for
-  abbrev pub PagesTellPlans : Type 0
-  PagesTellPlans = sessions.PagesTellPlans values file_group

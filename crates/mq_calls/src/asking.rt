@@ -1,19 +1,18 @@
 // The call of a session that only reads.
-ghost use Rattle.std.specs.Prelude.{◌≡◌, ◌<◌, ◌≤◌, ◌+◌, ◌^◌, ◌↔◌, ℕ, false, IfErr, IfNone, IfOk, IfSome, OnErr, length};
+ghost use Rattle.std.specs.Prelude.{◌≡◌, ◌<◌, ◌≤◌, ◌+◌, ◌^◌, ◌↔◌, ℕ, false, IfErr, IfNone, IfOk, IfSome, length};
 ghost use Rattle.std.specs.List.{All};
 ghost use Rattle.mq_tree.specs.Requests.{is_change};
 ghost use Rattle.mq_turns.specs.AtDesk.{AtDesk, view};
-ghost use Rattle.mq_calls.specs.Acts.{GoesOn, KeepsAll, ReadsOnly};
+ghost use Rattle.mq_calls.specs.Acts.{GoesOn, ReadsOnly};
 ghost use Rattle.mq_calls.specs.Asking.{IsFirstChange, IsNotAnswered, refusal_at};
 ghost use Rattle.mq_calls.specs.Sessions.{IsReady};
 
 use crate::answers::Answer;
-use crate::rounds::run_held;
 use crate::session::{Mqfs, Session};
 use mq_blocks::OutOfMemory;
 use mq_drive::Port;
 use mq_queue_side::{CallCause, Refusal};
-use mq_sessions::{Asked, CALL_LIMIT, read_group};
+use mq_sessions::{CALL_LIMIT, ask};
 use mq_tree::{Request, changes};
 use std::alloc::Global;
 use std::sync::Wait;
@@ -28,74 +27,7 @@ fn first_change(requests: &[Request]) -> Option<u32>
     Some(index as u32)
 }
 
-// The count of calls after one more, which is not counted above the limit.
-fn counted(calls: u64) -> u64
-    ensures one { calls < CALL_LIMIT → result ≡ calls + 1 }
-    ensures limit { CALL_LIMIT ≤ calls → result ≡ calls }
-{
-    if calls < CALL_LIMIT { calls + 1 } else { calls }
-}
-
 impl<P: Port + Drop> Mqfs<P> {
-    // Asks a group of requests of which none may change the tree, as the next call of the session.
-    fn read<R: Wait>(
-        &self,
-        rt: &R,
-        alloc: Global,
-        session: &mut Session<P>,
-        requests: &[Request],
-    ) -> Result<Answer, OutOfMemory>
-        requires desk { AtDesk self.now.desk session.old.chair }
-        requires ready { IsReady self.now.geometry session.old.queue session.old.calls session.old.held
-            (view session.old.chair) }
-        requires few { session.old.calls < CALL_LIMIT }
-        requires reads { All (λ r. is_change r ≡ false) requests.now }
-        ensures desk { AtDesk self.now.desk session.new.chair }
-        ensures ready { IsReady self.now.geometry session.new.queue session.new.calls session.new.held
-            (view session.new.chair) }
-        ensures queue { session.new.queue ≡ session.old.queue }
-        ensures answered { IfOk result (λ a. (a.drew ≡ false) × ReadsOnly
-            (record { session = session.old.queue; count = session.old.calls; durable = false; requests = requests.now })
-            a.replies.items a.at (view session.old.chair) (view session.new.chair)) }
-        ensures calls { session.new.calls ≡ session.old.calls + 1 }
-        ensures goes { GoesOn (view session.old.chair) (view session.new.chair) }
-        ensures refused { OnErr result (KeepsAll (view session.old.chair) (view session.new.chair)) }
-    {
-        let asked = Asked {
-            queue: session.queue,
-            calls: session.calls,
-            durable: false,
-            requests,
-        };
-        session.calls += 1;
-        session.wanted.clear();
-        let done = run_held(
-            rt,
-            alloc,
-            &self.desk,
-            &mut session.chair,
-            self.geometry,
-            asked.queue,
-            requests,
-            &mut session.wanted,
-            &mut session.held,
-        )?;
-        let at = read_group(
-            alloc,
-            &self.desk,
-            &mut session.chair,
-            self.geometry,
-            &asked,
-            &mut session.held,
-            &done,
-        )?;
-        Ok(Answer {
-            at,
-            drew: false,
-            replies: done.replies,
-        })
-    }
-
     /// Executes a group of requests none of which may change the tree. It is read at the newest number that
     /// the session finds: the replies are those of the volume that all groups drawn up to there have left,
     /// including groups that a power cut may still undo. If a request may change the tree, the call is
@@ -128,22 +60,18 @@ impl<P: Port + Drop> Mqfs<P> {
         ensures limit { CALL_LIMIT ≤ session.old.calls → session.new ≡ session.old }
     {
         if let Some(index) = first_change(requests) {
-            session.calls = counted(session.calls);
+            session.count_call();
             return Err(Refusal {
                 cause: CallCause::Changes { index },
                 drawn: None,
             });
         }
-        let wanting = Refusal {
-            cause: CallCause::OutOfMemory,
-            drawn: None,
-        };
-        if session.calls >= CALL_LIMIT {
-            return Err(wanting);
-        }
-        match self.read(rt, alloc, session, requests) {
+        match ask(rt, alloc, &self.desk, self.geometry, session, requests) {
             Ok(answer) => Ok(answer),
-            Err(OutOfMemory) => Err(wanting),
+            Err(OutOfMemory) => Err(Refusal {
+                cause: CallCause::OutOfMemory,
+                drawn: None,
+            }),
         }
     }
 }

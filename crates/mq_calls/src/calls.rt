@@ -1,19 +1,16 @@
 // The calls of a session that change the file system.
-ghost use Rattle.std.specs.Prelude.{◌≡◌, ◌+◌, ◌<◌, ◌≤◌, IfErr, IfOk, OnOk, [], true, false};
-ghost use Rattle.mq_calls.specs.Group.{file_group};
-ghost use Rattle.mq_journal.specs.Sweeping.{HasSwept};
+ghost use Rattle.std.specs.Prelude.{◌≡◌, ◌+◌, ◌<◌, IfErr, IfOk, true, false};
 ghost use Rattle.mq_turns.specs.AtDesk.{AtDesk, view};
 ghost use Rattle.mq_calls.specs.Acts.{GoesOn, HasActed, HasNotWaited, IsRefused, cause_as};
 ghost use Rattle.mq_calls.specs.Calling.{call_by};
 ghost use Rattle.mq_calls.specs.Sessions.{IsReady};
-ghost use Rattle.mq_calls.specs.Synchronizing.{IsDurable, IsNotDurable, WasDrainRefused};
+ghost use Rattle.mq_calls.specs.Synchronizing.{IsDurable, IsNotDurable};
 
 use crate::answers::Answer;
 use crate::session::{Mqfs, Session};
 use mq_drive::Port;
-use mq_journal::drain_all;
 use mq_queue_side::{CallCause, Refusal};
-use mq_sessions::{CALL_LIMIT, Gate, Point, RefusalCause};
+use mq_sessions::{CALL_LIMIT, Gate, RefusalCause, act, act_durably};
 use mq_tree::Request;
 use std::alloc::Global;
 use std::sync::Wait;
@@ -39,93 +36,7 @@ fn refused(refusal: mq_sessions::Refusal) -> Refusal
     }
 }
 
-// Passes the gate, where a commit was rung.
-fn pass_rung<G: Gate>(gate: &G, session: u32, answer: &Answer) {
-    if answer.drew {
-        gate.pass(session, Point::Rung);
-    }
-}
-
 impl<P: Port + Drop> Mqfs<P> {
-    // Drains each queue, so that every number up to the answer's is done.
-    fn drain<R: Wait>(
-        &self,
-        rt: &R,
-        session: &mut Session<P>,
-        answer: &Answer,
-    ) -> Result<(), Refusal>
-        requires desk { AtDesk self.now.desk session.old.chair }
-        requires idle { (view session.old.chair).held ≡ [] }
-        requires seen { answer.now.at ≤ (view session.old.chair).seen }
-        ensures desk { AtDesk self.now.desk session.new.chair }
-        ensures queue { session.new.queue ≡ session.old.queue }
-        ensures calls { session.new.calls ≡ session.old.calls }
-        ensures held { session.new.held ≡ session.old.held }
-        ensures goes { GoesOn (view session.old.chair) (view session.new.chair) }
-        ensures done { OnOk result (answer.now.at ≤ (view session.new.chair).reading.done) }
-        ensures swept { OnOk result (HasSwept P.state P.faults file_group (view session.old.chair)
-            (view session.new.chair)) }
-        ensures refused { IfErr result (λ r. WasDrainRefused P.state P.faults self.now.geometry answer.now.at
-            answer.now.drew (view session.old.chair) (view session.new.chair) r.cause r.drawn) }
-    {
-        let queues = self.geometry.queues();
-        match drain_all(rt, &self.desk, &mut session.chair, queues, answer.at) {
-            Ok(()) => Ok(()),
-            Err(cause) => Err(Refusal {
-                cause: CallCause::Drive(cause),
-                drawn: if answer.drew { Some(answer.at) } else { None },
-            }),
-        }
-    }
-
-    // Does a group as the session's next call. Where its plan does not fit the journal area, it makes a
-    // checkpoint and begins again, once.
-    fn act<R: Wait>(
-        &self,
-        rt: &R,
-        alloc: Global,
-        session: &mut Session<P>,
-        requests: &[Request],
-        durable: bool,
-    ) -> Result<Answer, Refusal>
-        requires desk { AtDesk self.now.desk session.old.chair }
-        requires ready { IsReady self.now.geometry session.old.queue session.old.calls session.old.held
-            (view session.old.chair) }
-        ensures desk { AtDesk self.now.desk session.new.chair }
-        ensures ready { IsReady self.now.geometry session.new.queue session.new.calls session.new.held
-            (view session.new.chair) }
-        ensures queue { session.new.queue ≡ session.old.queue }
-        ensures calls { session.old.calls < CALL_LIMIT → session.new.calls ≡ session.old.calls + 1 }
-        ensures goes { GoesOn (view session.old.chair) (view session.new.chair) }
-        ensures acts { IfOk result (λ a. HasActed P.state P.faults self.now.geometry
-            (call_by session.old.queue session.old.calls durable requests.now) a.at a.drew a.replies.items
-            (view session.old.chair) (view session.new.chair)) }
-        ensures waits { IfOk result (λ a. HasNotWaited P.state P.faults self.now.geometry
-            (call_by session.old.queue session.old.calls durable requests.now) a.at a.drew
-            (view session.old.chair) (view session.new.chair)) }
-        ensures seen { IfOk result (λ a. a.at ≤ (view session.new.chair).seen) }
-        ensures refused { IfErr result (λ r. IsRefused P.state P.faults self.now.geometry
-            (call_by session.old.queue session.old.calls durable requests.now)
-            (view session.old.chair) (view session.new.chair) r.cause r.drawn) }
-    {
-        match mq_sessions::act(
-            rt,
-            alloc,
-            &self.desk,
-            self.geometry,
-            session,
-            requests,
-            durable,
-        ) {
-            Ok(given) => Ok(Answer {
-                at: given.at,
-                drew: given.drew,
-                replies: given.replies,
-            }),
-            Err(refusal) => Err(refused(refusal)),
-        }
-    }
-
     /// Executes a group as one transaction, which a power cut keeps whole or drops whole. It survives once
     /// an `fsync` with a number not below the answer's has succeeded. A group that changes nothing draws no
     /// number; its answer has the number at which it was read. If the journal area of the queue has too
@@ -157,17 +68,10 @@ impl<P: Port + Drop> Mqfs<P> {
             (call_by session.old.queue session.old.calls false requests.now)
             (view session.old.chair) (view session.new.chair) r.cause r.drawn) }
     {
-        let session_number = session.queue.0;
-        match self.act(rt, alloc, session, requests, false) {
-            Ok(answer) => {
-                pass_rung(gate, session_number, &answer);
-                gate.pass(session_number, Point::Answered);
-                Ok(answer)
-            }
-            Err(refusal) => {
-                gate.pass(session_number, Point::Answered);
-                Err(refusal)
-            }
+        let geometry = self.geometry;
+        match act(rt, alloc, &self.desk, geometry, session, requests, gate) {
+            Ok(answer) => Ok(answer),
+            Err(refusal) => Err(refused(refusal)),
         }
     }
 
@@ -197,21 +101,10 @@ impl<P: Port + Drop> Mqfs<P> {
             (call_by session.old.queue session.old.calls true requests.now)
             (view session.old.chair) (view session.new.chair) r.cause r.drawn) }
     {
-        let session_number = session.queue.0;
-        match self.act(rt, alloc, session, requests, true) {
-            Ok(answer) => {
-                pass_rung(gate, session_number, &answer);
-                let drained = self.drain(rt, session, &answer);
-                gate.pass(session_number, Point::Answered);
-                match drained {
-                    Ok(()) => Ok(answer),
-                    Err(refusal) => Err(refusal),
-                }
-            }
-            Err(refusal) => {
-                gate.pass(session_number, Point::Answered);
-                Err(refusal)
-            }
+        let geometry = self.geometry;
+        match act_durably(rt, alloc, &self.desk, geometry, session, requests, gate) {
+            Ok(answer) => Ok(answer),
+            Err(refusal) => Err(refused(refusal)),
         }
     }
 }

@@ -9,7 +9,8 @@ ghost use Rattle.mq_calls.specs.Sessions.{IsReady};
 use crate::session::{Mqfs, Session};
 use mq_blocks::TxNo;
 use mq_drive::Port;
-use mq_journal::{CheckpointRefusal, checkpoint};
+use mq_journal::CheckpointRefusal;
+use mq_sessions::checkpoint;
 use std::alloc::Global;
 use std::sync::Wait;
 
@@ -39,6 +40,6 @@ impl<P: Port + Drop> Mqfs<P> {
         ensures refused { IfErr result (λ why. HasRefused P.state P.faults file_group why
             (view session.old.chair) (view session.new.chair)) }
     {
-        checkpoint(rt, alloc, self.geometry, &self.desk, &mut session.chair)
+        checkpoint(rt, alloc, &self.desk, self.geometry, session)
     }
 }

@@ -1,5 +1,5 @@
-//! Calls of the sessions of a file system on a desk that many threads share: the pages that a session
-//! takes, runs a group of requests on, and gives back.
+//! Files on the journal: groups of requests as its entries, and the calls of sessions on a desk that many threads
+//! share, each of which takes pages, runs a group on them, and gives them back.
 #![tactic(auto)]
 
 mod answers;
@@ -14,8 +14,6 @@ mod lists;
 mod machine;
 mod mounting;
 mod opening;
-mod planning;
-mod rounds;
 mod session;
 mod settling;
 mod telling;

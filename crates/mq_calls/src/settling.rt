@@ -11,9 +11,8 @@ use crate::machine::FileMachine;
 use crate::session::{Mqfs, Session};
 use mq_blocks::{QueueNo, TxNo};
 use mq_drive::Port;
-use mq_journal::settle;
 use mq_queue_side::Cause;
-use mq_sessions::Aide;
+use mq_sessions::{Aide, settle, settle_own};
 use std::sync::Wait;
 
 /// One that drains the sides of queues beside the sessions of a file system, on a thread of its own. It has
@@ -40,7 +39,7 @@ impl<P: Port + Drop> Mqfs<P> {
         ensures refused { IfErr result (λ c. RefusesDrain queue c (view helper.old.chair)
             (view helper.new.chair)) }
     {
-        settle(rt, &self.desk, &mut helper.chair, queue)
+        settle(rt, &self.desk, helper, queue)
     }
 
     /// Does the same for the session's own queue.
@@ -59,7 +58,6 @@ impl<P: Port + Drop> Mqfs<P> {
         ensures refused { IfErr result (λ c. RefusesDrain session.old.queue c (view session.old.chair)
             (view session.new.chair)) }
     {
-        let queue = session.queue;
-        settle(rt, &self.desk, &mut session.chair, queue)
+        settle_own(rt, &self.desk, session)
     }
 }

@@ -6,6 +6,7 @@ ghost use Rattle.mq_calls.specs.Sessions.{IsReady};
 
 use crate::session::{Mqfs, Session};
 use mq_drive::Port;
+use mq_sessions::tell;
 
 impl<P: Port + Drop> Mqfs<P> {
     /// From now on `to` has seen every number that `from` saw or drew. Nothing else of the two changes.
@@ -28,6 +29,6 @@ impl<P: Port + Drop> Mqfs<P> {
             × Below n (view from.old.chair)
             × Below n (view to.old.chair) }
     {
-        self.desk.tell(&mut from.chair, &mut to.chair);
+        tell(&self.desk, from, to);
     }
 }

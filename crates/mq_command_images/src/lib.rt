@@ -1,4 +1,5 @@
-//! The commands on images but for runs: each loads an image or makes one, and says one text with a status.
+//! The commands on images but for runs, and `audit` of a trace: each loads an image or a trace, or makes an image,
+//! and says one text with a status.
 #![tactic(auto)]
 
 mod answer;

@@ -1,4 +1,5 @@
-//! The command `run`: scripts that run on the image of a drive, each on a session and a thread of its own.
+//! The commands `run` and `gen`: scripts that run on the image of a drive, each on a session and a thread of its own,
+//! and scripts that a generator makes.
 #![tactic(auto)]
 
 mod generated;

@@ -17,7 +17,7 @@ use std::sync::Wait;
 
 /// Looks at the number drawn last, and drains all sides: all numbers up to the returned one are then known
 /// to be done.
-pub(crate) fn settle<R: Wait, P: Port + Drop, G: Groups>(
+pub(crate) fn catch_up<R: Wait, P: Port + Drop, G: Groups>(
     rt: &R,
     desk: &Desk<JournalMachine<P, G>>,
     chair: &mut Chair<JournalMachine<P, G>>,

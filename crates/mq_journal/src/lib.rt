@@ -1,5 +1,5 @@
-//! The journal on a desk: the machine whose values are cells of home blocks, sides of queues and the root,
-//! for groups of any kind.
+//! The journal on a desk: the machine whose values are cells of home blocks, sides of queues and the root, for
+//! groups of any kind; and the calls on it: send, drain, settle, checkpoint.
 #![tactic(auto)]
 
 mod catching_up;

@@ -7,7 +7,7 @@ ghost use Rattle.mq_turns.specs.AtDesk.{AtDesk, view, start_of};
 ghost use Rattle.mq_journal.specs.Pages.{AreNoted, HoldsOnlyPage, IsAtHome, IsCopyOf, IsNoted};
 ghost use Rattle.mq_journal.specs.Steps.{IsRefusedBy, MovesOn, RefusesCheckpoint};
 
-use crate::catching_up::settle;
+use crate::catching_up::catch_up;
 use crate::homes::write_home;
 use crate::machine::{Groups, JournalMachine};
 use crate::refusal::CheckpointRefusal;
@@ -63,7 +63,7 @@ fn settle_page<R: Wait, P: Port + Drop, G: Groups>(
     if cell.version <= done {
         return Ok(done);
     }
-    settle(rt, desk, chair, geometry.queues())
+    catch_up(rt, desk, chair, geometry.queues())
 }
 
 // Writes a page in hand home, where it waits for it.

@@ -6,7 +6,7 @@ ghost use Rattle.mq_desk_laws.specs.Rule.{shape_of};
 ghost use Rattle.mq_turns.specs.AtDesk.{AtDesk, view, start_of};
 ghost use Rattle.mq_journal.specs.Raised.{HasRefused, Raises};
 
-use crate::catching_up::settle;
+use crate::catching_up::catch_up;
 use crate::machine::{Groups, JournalMachine};
 use crate::pages::bring_pages;
 use crate::refusal::CheckpointRefusal;
@@ -43,7 +43,7 @@ pub fn checkpoint<R: Wait, P: Port + Drop, G: Groups>(
     ensures refused { IfErr result (λ r. HasRefused P.state P.faults G.group r
         (view chair.old) (view chair.new)) }
 {
-    let last = settle(rt, desk, chair, geometry.queues())?;
+    let last = catch_up(rt, desk, chair, geometry.queues())?;
     let front = desk.front(chair);
     let base = TxNo(last.0.max(front.0));
     bring_pages(rt, desk, chair, alloc, geometry, base)?;

@@ -12,7 +12,7 @@ use mq_blocks::TxNo;
 use mq_drive::Port;
 use mq_journal::CheckpointRefusal;
 use mq_kv_buckets::{KvOp, KvReply};
-use mq_sessions::{Answer, CALL_LIMIT, Refusal, RefusalCause, act, act_durably};
+use mq_sessions::{Answer, CALL_LIMIT, Open, Refusal, RefusalCause, act, act_durably};
 use std::alloc::Global;
 use std::sync::Wait;
 
@@ -57,9 +57,9 @@ impl<P: Port + Drop> Kv<P> {
             (view session.old.chair) (view session.new.chair) r.cause r.drawn) }
     {
         if durable {
-            act_durably(rt, alloc, &self.desk, self.geometry, session, ops)
+            act_durably(rt, alloc, &self.desk, self.geometry, session, ops, &Open)
         } else {
-            act(rt, alloc, &self.desk, self.geometry, session, ops, false)
+            act(rt, alloc, &self.desk, self.geometry, session, ops, &Open)
         }
     }
 

@@ -1,5 +1,5 @@
 //! A run of groups of operations on the key-value store of an image: recovery, the groups on one session, the end,
-//! and the image that is left.
+//! the image that is left, and the law of what such a run promises.
 #![tactic(auto)]
 
 mod driving;

@@ -6,9 +6,8 @@ use Rattle.std.proofs.lemmas.List.Elements.{All-append}
 use Rattle.std.proofs.lemmas.Option.{get_or_from_slice_get, slice_get_read, slice_get_within}
 use Rattle.mq_blocks.specs.Drive.{PortState}
 use Rattle.mq_blocks.specs.declared.geometry.Geometry.{Geometry}
-use Rattle.mq_calls.specs.Acts.{GoesOn}
+use Rattle.mq_calls.specs.Acts.{Answer, GoesOn}
 use Rattle.mq_calls.specs.Asking.{IsFirstChange, refusal_at}
-use Rattle.mq_calls.specs.declared.answers.Answer.{Answer}
 use Rattle.mq_queue_side.specs.declared.answers.Refusal.{Refusal}
 use Rattle.mq_drive.specs.Steps.{PortFault}
 use Rattle.mq_drive.specs.declared.port.Port.{Ghosts}

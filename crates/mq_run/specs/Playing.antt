@@ -3,11 +3,10 @@ use Rattle.std.specs.Prelude.{◌≡◌, ◌⊎◌, ◌↔◌, ◌<◌, ◌≤�
 use Rattle.std.specs.declared.vec.Vec.{Vec}
 use Rattle.mq_blocks.specs.Drive.{PortState}
 use Rattle.mq_blocks.specs.declared.geometry.Geometry.{Geometry}
-use Rattle.mq_calls.specs.Acts.{Call, GoesOn, HasActed, IsRefused, ReadsOnly}
+use Rattle.mq_calls.specs.Acts.{Answer, Call, GoesOn, HasActed, IsRefused, ReadsOnly}
 use Rattle.mq_calls.specs.Asking.{IsFirstChange, IsNotAnswered, refusal_at}
 use Rattle.mq_calls.specs.Calling.{call_by}
 use Rattle.mq_calls.specs.Synchronizing.{IsDurable, IsNotDurable}
-use Rattle.mq_calls.specs.declared.answers.Answer.{Answer}
 use Rattle.mq_queue_side.specs.declared.answers.Refusal.{Refusal}
 use Rattle.mq_drive.specs.Steps.{PortFault}
 use Rattle.mq_drive.specs.declared.port.Port.{Ghosts}

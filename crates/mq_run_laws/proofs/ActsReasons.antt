@@ -6,11 +6,11 @@ use Rattle.std.proofs.lemmas.List.{length-append}
 use Rattle.mq_blocks.specs.Drive.{PortState}
 use Rattle.mq_blocks.specs.Geometry.{queues_of, write_limit}
 use Rattle.mq_blocks.specs.declared.geometry.Geometry.{Geometry}
-use Rattle.mq_calls.specs.Acts.{Call, IsOfCall, IsRefused, turned_down, no_room, IsTurnedDown, memory, too_large, before, cut}
+use Rattle.mq_calls.specs.Acts.{Call, IsOfCall, IsRefusedFor, RefusalCause, turned_down, no_room, IsTurnedDown, memory, too_large, before, cause_as, cut}
 use Rattle.mq_calls.specs.Asking.{IsFirstChange, IsNotAnswered, memory as no_memory, changes}
-use Rattle.mq_calls.specs.Synchronizing.{IsNotDurable, before as refused_before, after as refused_after, drawn_at}
+use Rattle.mq_calls.specs.Synchronizing.{IsNotDurableFor, before as refused_before, after as refused_after, drawn_at}
 use Rattle.mq_queue_side.specs.declared.answers.CallCause.{CallCause}
-use Rattle.mq_queue_side.specs.declared.answers.CallCause.TheVariants.{Changes, TooLarge}
+use Rattle.mq_queue_side.specs.declared.answers.CallCause.TheVariants.{Changes, Drive, OutOfMemory, TooLarge}
 use Rattle.mq_queue_side.specs.declared.answers.Refusal.{Refusal}
 use Rattle.mq_journal.specs.declared.refusal.CheckpointRefusal.TheVariants as checkpoint
 use Rattle.mq_drive.specs.Steps.{PortFault}
@@ -78,13 +78,13 @@ no-home at block status (Err (Stopped tx st)) old new h is = by (nat_le tx at) i
 no-home at block status (Err (FailedHome b st)) old new h is = absurd h
 
 module _ {P : Type 0} {G : Ghosts P} (state : P → PortState) (faults : P → List PortFault) (g : Geometry) where
-  turned : (end : End) (c : Call) (old new : Seat P FileEntry G) (why : CallCause) (drawn : Option ℕ) → (end ≡ Ask → ⊥) → IsTurnedDown state faults g c old new why drawn → Reasons {G = G} g end c why drawn new.read
-  turned end c old new _ _ not_ask (memory keeps) = record { asks = λ is. absurd (not_ask is); first = λ i is. absurd (cc); late = λ n is. absurd (cc); large = λ count limit is. absurd (cc) }
+  turned : (end : End) (c : Call) (old new : Seat P FileEntry G) (why : RefusalCause) (drawn : Option ℕ) → (end ≡ Ask → ⊥) → IsTurnedDown state faults g c old new why drawn → Reasons {G = G} g end c (cause_as why) drawn new.read
+  turned end c old new _ _ not_ask (memory keeps) = record { asks = λ is. absurd (not_ask is); first = λ (i : ℕ) (is : OutOfMemory ≡ Changes i). absurd (cc); late = λ n is. absurd (cc); large = λ (count limit : ℕ) (is : OutOfMemory ≡ TooLarge count limit). absurd (cc) }
   turned end c old new _ _ not_ask (too_large {count = k} {limit = m} l) = record {
     asks = λ is. absurd (not_ask is);
-    first = λ i is. absurd (cc);
+    first = λ (i : ℕ) (is : TooLarge k m ≡ Changes i). absurd (cc);
     late = λ n is. absurd (cc);
-    large = λ count limit is.
+    large = λ (count limit : ℕ) (is : TooLarge k m ≡ TooLarge count limit).
         let same : k ≡ count = cc in
         let most : m ≡ limit = cc in
         let over = l.above in
@@ -99,13 +99,13 @@ module _ {P : Type 0} {G : Ghosts P} (state : P → PortState) (faults : P → L
           above = omega arith;
         };
   }
-  turned end c old new _ _ not_ask (before refuses) = record { asks = λ is. absurd (not_ask is); first = λ i is. absurd (cc); late = λ n is. absurd (cc); large = λ count limit is. absurd (cc) }
-  turned end c old new _ _ not_ask (cut is) = record { asks = λ is. absurd (not_ask is); first = λ i is. absurd (cc); late = λ n is. tt; large = λ count limit is. absurd (cc) }
+  turned end c old new _ _ not_ask (before {why = w} refuses) = record { asks = λ is. absurd (not_ask is); first = λ (i : ℕ) (is : Drive w ≡ Changes i). absurd (cc); late = λ n is. absurd (cc); large = λ (count limit : ℕ) (is : Drive w ≡ TooLarge count limit). absurd (cc) }
+  turned end c old new _ _ not_ask (cut is) = record { asks = λ is. absurd (not_ask is); first = λ (i : ℕ) (is : Drive Off ≡ Changes i). absurd (cc); late = λ n is. tt; large = λ (count limit : ℕ) (is : Drive Off ≡ TooLarge count limit). absurd (cc) }
 
-  refused : (end : End) (c : Call) (old new : Seat P FileEntry G) (why : CallCause) (drawn : Option ℕ) → (end ≡ Ask → ⊥) → IsRefused state faults g c old new why drawn → Reasons {G = G} g end c why drawn new.read
+  refused : (end : End) (c : Call) (old new : Seat P FileEntry G) (why : RefusalCause) (drawn : Option ℕ) → (end ≡ Ask → ⊥) → IsRefusedFor state faults g c old new why drawn → Reasons {G = G} g end c (cause_as why) drawn new.read
   refused end c old new why drawn not_ask (turned_down {from = from} run_at down) = turned end c from new why drawn not_ask down
-  refused end c old new _ _ not_ask (no_room checkpoint.OutOfMemory full has) = record { asks = λ is. absurd (not_ask is); first = λ i is. absurd (cc); late = λ n is. absurd (cc); large = λ count limit is. absurd (cc) }
-  refused end c old new _ _ not_ask (no_room (checkpoint.Drive why) full has) = record { asks = λ is. absurd (not_ask is); first = λ i is. absurd (cc); late = λ n is. absurd (cc); large = λ count limit is. absurd (cc) }
+  refused end c old new _ _ not_ask (no_room checkpoint.OutOfMemory full has) = record { asks = λ is. absurd (not_ask is); first = λ (i : ℕ) (is : OutOfMemory ≡ Changes i). absurd (cc); late = λ n is. absurd (cc); large = λ (count limit : ℕ) (is : OutOfMemory ≡ TooLarge count limit). absurd (cc) }
+  refused end c old new _ _ not_ask (no_room (checkpoint.Drive why) full has) = record { asks = λ is. absurd (not_ask is); first = λ (i : ℕ) (is : Drive why ≡ Changes i). absurd (cc); late = λ n is. absurd (cc); large = λ (count limit : ℕ) (is : Drive why ≡ TooLarge count limit). absurd (cc) }
 
   late-port : (at n : ℕ) (was : Bool) (drawn : Option ℕ) (cause : Cause) (old new : Seat P FileEntry G) → drawn ≡ drawn_at at was → drawn ≡ Some n → NamesUpto at cause → WasRefused state faults file_group (queues_of g) at cause old new → IsLatePort Fsync n cause
   late-port at n false drawn cause old new is named upto r = absurd (cc)
@@ -114,13 +114,13 @@ module _ {P : Type 0} {G : Ghosts P} (state : P → PortState) (faults : P → L
   late-port at n true drawn (Stopped tx st) old new is named upto r = let same : at ≡ n = cc in (refl, omega arith)
   late-port at n true drawn (FailedHome b st) old new is named upto r = no-home at b st r.drained.result _ _ r.drained.cause r.drained.is
 
-  not-durable : (c : Call) (old new : Seat P FileEntry G) (why : CallCause) (drawn : Option ℕ) → IsNotDurable state faults g c old new why drawn → Reasons {G = G} g Fsync c why drawn new.read
+  not-durable : (c : Call) (old new : Seat P FileEntry G) (why : RefusalCause) (drawn : Option ℕ) → IsNotDurableFor state faults g c old new why drawn → Reasons {G = G} g Fsync c (cause_as why) drawn new.read
   not-durable c old new why drawn (refused_before r) = refused Fsync c old new why drawn (λ is. absurd (cc)) r
   not-durable c old new _ drawn (refused_after {cause = cause} w) = record {
     asks = λ is. absurd (cc);
-    first = λ i is. absurd (cc);
+    first = λ (i : ℕ) (is : Drive cause ≡ Changes i). absurd (cc);
     late = λ n is. late-port w.at n w.drew drawn cause w.between new w.drawn_is is w.upto w.refused;
-    large = λ count limit is. absurd (cc);
+    large = λ (count limit : ℕ) (is : Drive cause ≡ TooLarge count limit). absurd (cc);
   }
 
   not-answered : (c : Call) (old new : Seat P FileEntry G) (why : CallCause) (drawn : Option ℕ) → IsNotAnswered c.requests old new why drawn → Reasons {G = G} g Ask c why drawn new.read
@@ -133,8 +133,8 @@ module _ {P : Type 0} {G : Ghosts P} (state : P → PortState) (faults : P → L
   }
 
   not-done : (end : End) (c : Call) (r : Refusal) (old new : Seat P FileEntry G) → IsNotDone state faults g end c r old new → Reasons {G = G} g end c r.cause r.drawn new.read
-  not-done Fsync c r old new h = not-durable c old new r.cause r.drawn h
-  not-done Fatomic c r old new h = refused Fatomic c old new r.cause r.drawn (λ is. absurd (cc)) h
+  not-done Fsync c r old new h = subst (λ (x : CallCause). Reasons {G = G} g Fsync c x r.drawn new.read) (sym h.cause_is) (not-durable c old new h.why r.drawn h.is)
+  not-done Fatomic c r old new h = subst (λ (x : CallCause). Reasons {G = G} g Fatomic c x r.drawn new.read) (sym h.cause_is) (refused Fatomic c old new h.why r.drawn (λ is. absurd (cc)) h.is)
   not-done Ask c r old new h = not-answered c old new r.cause r.drawn h
 
   comes-reasons : (session k : ℕ) (group : Group) (answer : Result ℕ Refusal) (lines : List Line) (r : Refusal) (old new : Seat P FileEntry G) → answer ≡ Err r → Comes state faults g session k group answer lines old new → Reasons {G = G} g group.end (call_at session k group) r.cause r.drawn new.read

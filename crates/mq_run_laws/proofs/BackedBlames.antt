@@ -6,11 +6,11 @@ use Rattle.std.specs.List.{All, Contains}
 use Rattle.std.proofs.lemmas.List.{length-append}
 use Rattle.mq_blocks.specs.Drive.{PortState}
 use Rattle.mq_blocks.specs.declared.geometry.Geometry.{Geometry}
-use Rattle.mq_calls.specs.Acts.{Call, IsRefused, turned_down, no_room, IsTurnedDown, memory, too_large, before, cut}
+use Rattle.mq_calls.specs.Acts.{Call, IsRefusedFor, RefusalCause, turned_down, no_room, IsTurnedDown, memory, too_large, before, cause_as, cut}
 use Rattle.mq_calls.specs.Asking.{IsNotAnswered, memory as no_memory, changes}
-use Rattle.mq_calls.specs.Synchronizing.{IsNotDurable, before as refused_before, after as refused_after}
+use Rattle.mq_calls.specs.Synchronizing.{IsNotDurableFor, before as refused_before, after as refused_after}
 use Rattle.mq_queue_side.specs.declared.answers.CallCause.{CallCause}
-use Rattle.mq_queue_side.specs.declared.answers.CallCause.TheVariants.{Drive}
+use Rattle.mq_queue_side.specs.declared.answers.CallCause.TheVariants.{Drive, OutOfMemory, TooLarge}
 use Rattle.mq_queue_side.specs.declared.answers.Refusal.{Refusal}
 use Rattle.mq_journal.specs.Raised.{HasRefused}
 use Rattle.mq_journal.specs.declared.refusal.CheckpointRefusal.TheVariants as checkpoint
@@ -66,9 +66,9 @@ same-cause w cause is = cc
 module _ {P : Type 0} {G : Ghosts P} (state : P → PortState) (faults : P → List PortFault) (g : Geometry) where
   -- ---- a group that was refused
 
-  turned : (c : Call) (old new : Seat P FileEntry G) (why : CallCause) (drawn : Option ℕ) (cause : Cause) → why ≡ Drive cause → IsTurnedDown state faults g c old new why drawn → IsCharged cause new.reading.charged
-  turned c old new _ _ cause is (memory keeps) = absurd (cc)
-  turned c old new _ _ cause is (too_large large) = absurd (cc)
+  turned : (c : Call) (old new : Seat P FileEntry G) (why : RefusalCause) (drawn : Option ℕ) (cause : Cause) → cause_as why ≡ Drive cause → IsTurnedDown state faults g c old new why drawn → IsCharged cause new.reading.charged
+  turned c old new _ _ cause is (memory keeps) = let named : OutOfMemory ≡ Drive cause = is in absurd (cc)
+  turned c old new _ _ cause is (too_large {count = k} {limit = m} large) = let named : TooLarge k m ≡ Drive cause = is in absurd (cc)
   turned c old new _ _ cause is (before {why = w} refuses) = subst (λ (x : Cause). IsCharged x new.reading.charged) (same-cause w cause is) (Side c.session, first-of (charge_for (Side c.session) w) old.reading.charged new.reading.charged refuses.charged)
   turned c old new _ _ cause is (cut h) = subst (λ (x : Cause). IsCharged x new.reading.charged) (same-cause Off cause is) (Side c.session, first-of (charge_for (Side c.session) Off) old.reading.charged new.reading.charged h.commits.charged)
 
@@ -76,12 +76,12 @@ module _ {P : Type 0} {G : Ghosts P} (state : P → PortState) (faults : P → L
   checkpoint-charged w old new (inl m) = (m.port, first-of (charge_for m.port w) old.reading.charged new.reading.charged m.moves.charged)
   checkpoint-charged w old new (inr (front, m)) = (m.port, first-of (charge_for m.port w) old.reading.charged new.reading.charged m.moves.charged)
 
-  refused : (c : Call) (old new : Seat P FileEntry G) (why : CallCause) (drawn : Option ℕ) (cause : Cause) → why ≡ Drive cause → IsRefused state faults g c old new why drawn → IsCharged cause new.reading.charged
+  refused : (c : Call) (old new : Seat P FileEntry G) (why : RefusalCause) (drawn : Option ℕ) (cause : Cause) → cause_as why ≡ Drive cause → IsRefusedFor state faults g c old new why drawn → IsCharged cause new.reading.charged
   refused c old new why drawn cause is (turned_down {from = from} run_at down) = turned c from new why drawn cause is down
-  refused c old new _ _ cause is (no_room checkpoint.OutOfMemory full has) = absurd (cc)
+  refused c old new _ _ cause is (no_room checkpoint.OutOfMemory full has) = let named : OutOfMemory ≡ Drive cause = is in absurd (cc)
   refused c old new _ _ cause is (no_room (checkpoint.Drive w) {between = mid} full has) = subst (λ (x : Cause). IsCharged x new.reading.charged) (same-cause w cause is) (checkpoint-charged w mid new has)
 
-  not-durable : (c : Call) (old new : Seat P FileEntry G) (why : CallCause) (drawn : Option ℕ) (cause : Cause) → why ≡ Drive cause → IsNotDurable state faults g c old new why drawn → IsCharged cause new.reading.charged
+  not-durable : (c : Call) (old new : Seat P FileEntry G) (why : RefusalCause) (drawn : Option ℕ) (cause : Cause) → cause_as why ≡ Drive cause → IsNotDurableFor state faults g c old new why drawn → IsCharged cause new.reading.charged
   not-durable c old new why drawn cause is (refused_before r) = refused c old new why drawn cause is r
   not-durable c old new _ drawn cause is (refused_after {cause = w} h) =
       subst (λ (x : Cause). IsCharged x new.reading.charged) (same-cause w cause is) (Side h.refused.queue, first-of (charge_for (Side h.refused.queue) w) h.between.reading.charged new.reading.charged h.refused.charged)
@@ -91,8 +91,8 @@ module _ {P : Type 0} {G : Ghosts P} (state : P → PortState) (faults : P → L
   not-answered c old new _ _ cause is (changes first same) = absurd (cc)
 
   not-done : (end : End) (c : Call) (r : Refusal) (old new : Seat P FileEntry G) (cause : Cause) → r.cause ≡ Drive cause → IsNotDone state faults g end c r old new → IsCharged cause new.reading.charged
-  not-done Fsync c r old new cause is h = not-durable c old new r.cause r.drawn cause is h
-  not-done Fatomic c r old new cause is h = refused c old new r.cause r.drawn cause is h
+  not-done Fsync c r old new cause is h = not-durable c old new h.why r.drawn cause (sym h.cause_is ∙ is) h.is
+  not-done Fatomic c r old new cause is h = refused c old new h.why r.drawn cause (sym h.cause_is ∙ is) h.is
   not-done Ask c r old new cause is h = not-answered c old new r.cause r.drawn cause is h
 
   comes-charged : (session k : ℕ) (group : Group) (answer : Result ℕ Refusal) (lines : List Line) (r : Refusal) (old new : Seat P FileEntry G) (cause : Cause) → answer ≡ Err r → r.cause ≡ Drive cause → Comes state faults g session k group answer lines old new → IsCharged cause new.reading.charged

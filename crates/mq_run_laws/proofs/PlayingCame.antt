@@ -6,9 +6,9 @@ use Rattle.std.specs.Prelude.{Option, Some, None, Result, Ok, Err}
 use Rattle.mq_blocks.specs.Drive.{PortState}
 use Rattle.mq_blocks.specs.Geometry.{write_limit}
 use Rattle.mq_blocks.specs.declared.geometry.Geometry.{Geometry}
-use Rattle.mq_calls.specs.Acts.{Begins, at_once, again, Call, HasActed, IsOfCall, IsRefused, turned_down, no_room, IsTurnedDown, memory, too_large, before, cut, ReadsOnly}
+use Rattle.mq_calls.specs.Acts.{Begins, at_once, again, Call, HasActed, IsOfCall, IsRefusedFor, RefusalCause, turned_down, no_room, IsTurnedDown, memory, too_large, before, cut, ReadsOnly}
 use Rattle.mq_calls.specs.Asking.{IsNotAnswered, memory as no_memory, changes}
-use Rattle.mq_calls.specs.Synchronizing.{IsNotDurable, before as refused_before, after as refused_after, drawn_at}
+use Rattle.mq_calls.specs.Synchronizing.{IsNotDurableFor, before as refused_before, after as refused_after, drawn_at}
 use Rattle.mq_queue_side.specs.declared.answers.CallCause.{CallCause}
 use Rattle.mq_queue_side.specs.declared.answers.Refusal.{Refusal}
 use Rattle.mq_journal.specs.Raised.{HasRefused}
@@ -152,7 +152,7 @@ module _ {P : Type 0} {G : Ghosts P} (state : P → PortState) (faults : P → L
   abbrev Leaves : Call → Option ℕ → Seat P FileEntry G → Seat P FileEntry G → Type 0
   Leaves c drawn old new = Drew c drawn old new ⊎ ((drawn ≡ None) × Passes old new)
 
-  turned : (c : Call) (old new : Seat P FileEntry G) (why : CallCause) (drawn : Option ℕ) → IsTurnedDown state faults g c old new why drawn → Leaves c drawn old new
+  turned : (c : Call) (old new : Seat P FileEntry G) (why : RefusalCause) (drawn : Option ℕ) → IsTurnedDown state faults g c old new why drawn → Leaves c drawn old new
   turned c old new _ _ (memory keeps) = inr (refl, rests old new [] keeps.rests.drawn keeps.rests.read keeps.charged)
   turned c old new _ _ (too_large large) = inr (refl, record { drawn = large.reads.drawn; more = (large.entry, large.reads.known) ∷ []; read = large.reads.read; charges = []; charged = large.reads.charged })
   turned c old new _ _ (before refuses) = inr (refl, rests old new (_ ∷ []) refuses.rests.drawn refuses.rests.read refuses.charged)
@@ -176,7 +176,7 @@ module _ {P : Type 0} {G : Ghosts P} (state : P → PortState) (faults : P → L
   checkpoint-same (checkpoint.Drive why) mid new (inl m) = rests mid new (record { port = m.port; report = report_of why } ∷ []) m.moves.drawn m.moves.read m.moves.charged
   checkpoint-same (checkpoint.Drive why) mid new (inr (front, m)) = rests mid new (record { port = m.port; report = report_of why } ∷ []) m.moves.drawn m.moves.read m.moves.charged
 
-  refused : (c : Call) (old new : Seat P FileEntry G) (why : CallCause) (drawn : Option ℕ) → IsRefused state faults g c old new why drawn → Leaves c drawn old new
+  refused : (c : Call) (old new : Seat P FileEntry G) (why : RefusalCause) (drawn : Option ℕ) → IsRefusedFor state faults g c old new why drawn → Leaves c drawn old new
   refused c old new why drawn (turned_down {from = from} begins down) = let same = begins-same c old from begins in moved-on c drawn old from new same.0 same.1 same.2 (turned c from new why drawn down)
   refused c old new _ _ (no_room why {between = mid} full has) = inr (refl, passes-on old mid new full.keeps.rests.drawn full.keeps.rests.read full.keeps.charged (checkpoint-same why mid new has))
 
@@ -193,7 +193,7 @@ module _ {P : Type 0} {G : Ghosts P} (state : P → PortState) (faults : P → L
       let saw = acted-saw c at replies old mid acted in
       inr (is, record { drawn = d ∙ saw.drawn; more = (saw.entry, saw.known) ∷ []; read = r ∙ saw.read; charges = x ∷ saw.charges; charged = ch ∙ ap (λ cs. x ∷ cs) saw.charged })
 
-  not-durable : (c : Call) (old new : Seat P FileEntry G) (why : CallCause) (drawn : Option ℕ) → IsNotDurable state faults g c old new why drawn → Leaves c drawn old new
+  not-durable : (c : Call) (old new : Seat P FileEntry G) (why : RefusalCause) (drawn : Option ℕ) → IsNotDurableFor state faults g c old new why drawn → Leaves c drawn old new
   not-durable c old new why drawn (refused_before r) = refused c old new why drawn r
   not-durable c old new _ drawn (refused_after w) =
       after-done c w.at w.drew w.replies drawn old w.between new w.acted w.drawn_is (ap (λ (v : Seat P FileEntry G). v.drawn) w.refused.is) (ap (λ (v : Seat P FileEntry G). v.read) w.refused.is) _ w.refused.charged
@@ -210,9 +210,9 @@ module _ {P : Type 0} {G : Ghosts P} (state : P → PortState) (faults : P → L
 
   came-not : (session k : ℕ) (group : Group) (r : Refusal) (old new : Seat P FileEntry G) (end : End) → group.end ≡ end → IsNotDone state faults g end (call_at session k group) r old new → Came g session k group (Err r) [] old new
   came-not session k group r old new Fsync is n =
-      came-drew session k group r old new (ap (λ (e : End). end_of (is_durable e)) is ∙ sym is) (not-durable (call_at session k group) old new r.cause r.drawn n)
+      came-drew session k group r old new (ap (λ (e : End). end_of (is_durable e)) is ∙ sym is) (not-durable (call_at session k group) old new n.why r.drawn n.is)
   came-not session k group r old new Fatomic is n =
-      came-drew session k group r old new (ap (λ (e : End). end_of (is_durable e)) is ∙ sym is) (refused (call_at session k group) old new r.cause r.drawn n)
+      came-drew session k group r old new (ap (λ (e : End). end_of (is_durable e)) is ∙ sym is) (refused (call_at session k group) old new n.why r.drawn n.is)
   came-not session k group r old new Ask is n = let p = not-answered (call_at session k group) old new r.cause r.drawn n in passed p.0 p.1
 
   pub came : (session k : ℕ) (group : Group) (answer : Result ℕ Refusal) (lines : List Line) (old new : Seat P FileEntry G) → Comes state faults g session k group answer lines old new → Came g session k group answer lines old new

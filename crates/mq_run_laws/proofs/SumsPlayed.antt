@@ -4,9 +4,9 @@ use Rattle.std.specs.Prelude.{Option, Some, None, Result, Ok, Err}
 use Rattle.mq_blocks.specs.Drive.{PortState}
 use Rattle.mq_blocks.specs.Totals.{total}
 use Rattle.mq_blocks.specs.declared.geometry.Geometry.{Geometry}
-use Rattle.mq_calls.specs.Acts.{Call, HasActed, IsRefused, turned_down, no_room, IsTurnedDown, memory, too_large, before, cut}
+use Rattle.mq_calls.specs.Acts.{Call, HasActed, IsRefusedFor, RefusalCause, turned_down, no_room, IsTurnedDown, memory, too_large, before, cause_as, cut}
 use Rattle.mq_calls.specs.Asking.{IsNotAnswered, memory as no_memory, changes}
-use Rattle.mq_calls.specs.Synchronizing.{IsNotDurable, before as refused_before, after as refused_after}
+use Rattle.mq_calls.specs.Synchronizing.{IsNotDurableFor, before as refused_before, after as refused_after}
 use Rattle.mq_queue_side.specs.declared.answers.CallCause.{CallCause}
 use Rattle.mq_queue_side.specs.declared.answers.CallCause.TheVariants.{Drive}
 use Rattle.mq_queue_side.specs.declared.answers.Refusal.{Refusal}
@@ -78,7 +78,7 @@ module _ {P : Type 0} {G : Ghosts P} (state : P → PortState) (faults : P → L
 
   -- ---- a group that was refused
 
-  turned-counts : (c : Call) (old new : Seat P FileEntry G) (why : CallCause) (drawn : Option ℕ) → IsTurnedDown state faults g c old new why drawn → Counts (charged_by g why) old new
+  turned-counts : (c : Call) (old new : Seat P FileEntry G) (why : RefusalCause) (drawn : Option ℕ) → IsTurnedDown state faults g c old new why drawn → Counts (charged_by g (cause_as why)) old new
   turned-counts c old new _ _ (memory keeps) = none-counts old new keeps.charged
   turned-counts c old new _ _ (too_large l) = none-counts old new l.reads.charged
   turned-counts c old new _ _ (before {why = w} refuses) = push-count g f (Side c.session) w old.reading.charged new.reading.charged refuses.charged
@@ -90,9 +90,9 @@ module _ {P : Type 0} {G : Ghosts P} (state : P → PortState) (faults : P → L
   stop-counts (checkpoint.Drive w) old new (inl m) = push-count g f m.port w old.reading.charged new.reading.charged m.moves.charged
   stop-counts (checkpoint.Drive w) old new (inr (front, m)) = push-count g f m.port w old.reading.charged new.reading.charged m.moves.charged
 
-  refused-counts : (c : Call) (old new : Seat P FileEntry G) (why : CallCause) (drawn : Option ℕ) → IsRefused state faults g c old new why drawn → Counts (charged_by g why) old new
+  refused-counts : (c : Call) (old new : Seat P FileEntry G) (why : RefusalCause) (drawn : Option ℕ) → IsRefusedFor state faults g c old new why drawn → Counts (charged_by g (cause_as why)) old new
   refused-counts c old new why drawn (turned_down {from = from} run_at down) =
-      counts-on (charged_by g why) old from new (same-count g f old.reading.charged from.reading.charged (begins-same state faults g c old from run_at).2) (turned-counts c from new why drawn down)
+      counts-on (charged_by g (cause_as why)) old from new (same-count g f old.reading.charged from.reading.charged (begins-same state faults g c old from run_at).2) (turned-counts c from new why drawn down)
   refused-counts c old new _ _ (no_room checkpoint.OutOfMemory {between = mid} full has) =
       counts-on None old mid new (same-count g f old.reading.charged mid.reading.charged full.keeps.charged) (stop-counts checkpoint.OutOfMemory mid new has)
   refused-counts c old new _ _ (no_room (checkpoint.Drive w) {between = mid} full has) =
@@ -109,7 +109,7 @@ module _ {P : Type 0} {G : Ghosts P} (state : P → PortState) (faults : P → L
       let none = same-count g f a.from.reading.charged new.reading.charged a.acts.reads.charged in
       omega arith
 
-  not-durable-counts : (c : Call) (old new : Seat P FileEntry G) (why : CallCause) (drawn : Option ℕ) → IsNotDurable state faults g c old new why drawn → Counts (charged_by g why) old new
+  not-durable-counts : (c : Call) (old new : Seat P FileEntry G) (why : RefusalCause) (drawn : Option ℕ) → IsNotDurableFor state faults g c old new why drawn → Counts (charged_by g (cause_as why)) old new
   not-durable-counts c old new why drawn (refused_before r) = refused-counts c old new why drawn r
   not-durable-counts c old new _ drawn (refused_after {cause = w} h) =
       counts-on (fault_of g (report_of w)) old h.between new (acted-more c h.at h.drew h.replies old h.between h.acted)
@@ -120,8 +120,8 @@ module _ {P : Type 0} {G : Ghosts P} (state : P → PortState) (faults : P → L
   not-answered-counts c old new _ _ (changes first same) = none-counts old new (ap (λ (v : Seat P FileEntry G). v.reading.charged) same)
 
   not-done-counts : (end : End) (c : Call) (r : Refusal) (old new : Seat P FileEntry G) → IsNotDone state faults g end c r old new → Counts (charged_by g r.cause) old new
-  not-done-counts Fsync c r old new h = not-durable-counts c old new r.cause r.drawn h
-  not-done-counts Fatomic c r old new h = refused-counts c old new r.cause r.drawn h
+  not-done-counts Fsync c r old new h = subst (λ (x : CallCause). Counts (charged_by g x) old new) (sym h.cause_is) (not-durable-counts c old new h.why r.drawn h.is)
+  not-done-counts Fatomic c r old new h = subst (λ (x : CallCause). Counts (charged_by g x) old new) (sym h.cause_is) (refused-counts c old new h.why r.drawn h.is)
   not-done-counts Ask c r old new h = not-answered-counts c old new r.cause r.drawn h
 
   came-more : (session k : ℕ) (group : Group) (answer : Result ℕ Refusal) (lines : List Line) (old new : Seat P FileEntry G) → Came g session k group answer lines old new → count old ≤ count new

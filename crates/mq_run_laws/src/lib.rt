@@ -1,4 +1,5 @@
-//! What a run of scripts is, in the words of its report.
+//! What a run of scripts is, in the words of its report, and what it promises: a legal history, the cut of it that
+//! the image is, and what recovery leaves.
 #![tactic(auto)]
 
 mod history_laws;

@@ -32,3 +32,4 @@ pub mod OpeningState
 pub mod OpeningFresh
 pub mod OpeningSessions
 pub mod OpeningStartReads
+pub mod DrainsBeside

@@ -11,7 +11,8 @@ use Rattle.mq_turns.specs.Lists.{Each}
 use Rattle.mq_turns.proofs.Lists.{each_map}
 use Rattle.mq_sessions.specs.Acts.{KeepsAll, Rests}
 use Rattle.mq_sessions.specs.Calling.{HasLeft}
-use Rattle.mq_sessions.specs.Calls.{HasCalled, IsReady}
+use Rattle.mq_sessions.specs.Calls.{Call, HasCalled, IsReady}
+use Rattle.mq_sessions.specs.Executors.{CallView, EntriesTell, IsReadOf}
 use Rattle.mq_sessions.specs.Wanted.{IsSameSession}
 
 module _ {P E : Type 0} {G : Ghosts P} where
@@ -139,6 +140,23 @@ module _ {P E : Type 0} {G : Ghosts P} (group : GroupView E) where
     | inr high ↦ subst (λ (k : ℕ). IsReady group g q k cells v) (sym (same high)) ready
   ]
 
+  -- by equal parts of the session
+  pub ready-as : (g : Geometry) (q k n m : ℕ) (old new : HeldCells) (v : Seat P E G) → k ≡ q → m ≡ n → new ≡ old → IsReady group g q n old v → IsReady group g k m new v
+  ready-as g q k n m old new v queue calls held ready =
+      subst (λ (x : ℕ). IsReady group g x m new v) (sym queue)
+      (subst (λ (x : ℕ). IsReady group g q x new v) (sym calls) (subst (λ (x : HeldCells). IsReady group g q n x v) (sym held) ready))
+
+  -- it was told of a number
+  pub ready-told : (g : Geometry) (q n k : ℕ) (cells : HeldCells) (v : Seat P E G) → IsReady group g q n cells v → IsReady group g q n cells (record v { seen = k })
+  ready-told g q n k cells v ready = record {
+    queue = ready.queue;
+    own = ready.own;
+    idle = ready.idle;
+    called = record { drawn = ready.called.drawn; read = ready.called.read; few = ready.called.few };
+    none = ready.none;
+    room = ready.room;
+  }
+
   -- once it has left
   pub ready-left : (g : Geometry) (q n k : ℕ) (old new : HeldCells) (v w : Seat P E G) → IsReady group g q n old v → HasLeft old new v w → HasCalled group k w → IsReady group g q k new w
   ready-left g q n k old new v w ready left called = record {
@@ -164,4 +182,16 @@ module _ {P E : Type 0} {G : Ghosts P} (group : GroupView E) where
     called = called-kept n v w drawn read ready.called;
     none = ready.none;
     room = ready.room;
+  }
+
+module _ {P E Req Rep D : Type 0} {G : Ghosts P} (group : GroupView E) (calls : CallView E Req Rep D) where
+  -- once it has read the group of its next call
+  pub ready-read : (g : Geometry) (c : Call Req) (done : D) (at : ℕ) (old new : HeldCells) (v m w : Seat P E G) → EntriesTell group calls → IsReady group g c.session c.count old v → IsSameSession v m → IsReadOf calls c done at m w → new.cells ≡ [] → new.room ≡ old.room → IsReady group g c.session (c.count + 1) new w
+  ready-read g c done at old new v m w law ready same read none room = record {
+    queue = ready.queue;
+    own = ap (λ (x : Seat P E G). x.session) read.looked.is ∙ ap (λ (x : Seat P E G). x.session) same.is ∙ ready.own;
+    idle = ap (λ (x : Seat P E G). x.held) read.looked.is;
+    called = called-read group c.count read.entry read.looked.known m w (law c done read.entry read.is).call (ap (λ (x : Seat P E G). x.drawn) read.looked.is) (ap (λ (x : Seat P E G). x.read) read.looked.is) (called-along group c.count v m same ready.called);
+    none = none;
+    room = subst (λ (k : ℕ). homes_of g ≤ k) (sym room) ready.room;
   }

@@ -111,6 +111,14 @@ module _ {E Req Rep D : Type 0} (group : GroupView E) (calls : CallView E Req Re
       → (group.session e ≡ c.session) × (group.call e ≡ c.count)
 
 module _ {E Req Rep D : Type 0} (group : GroupView E) (calls : CallView E Req Rep D) where
+  -- Whatever pages are held, of a map on which groups run, the group of the session neither writes nor frees.
+  abbrev pub ChangesNothing : Geometry → (queue : ℕ) → List Req → Type 0
+  ChangesNothing g queue requests =
+      (cells : Cells) (done : D)
+      → IsPossible group.good g cells
+      → calls.on_cells g queue cells requests done
+      → (calls.writes done ≡ []) × (calls.frees done ≡ [])
+
   -- what a group writes, it writes by rising home block
   abbrev pub DoneGroupsRise : Type 0
   DoneGroupsRise =

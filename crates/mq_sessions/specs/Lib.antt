@@ -16,3 +16,4 @@ pub mod Refusing
 pub mod Synchronizing
 pub mod Seats
 pub mod Opening
+pub mod Settling

@@ -1,5 +1,5 @@
 // The calls of a session that change something.
-ghost use Rattle.std.specs.Prelude.{◌≡◌, ◌+◌, ◌<◌, ◌≤◌, IfErr, IfOk, OnOk, [], None, length, true};
+ghost use Rattle.std.specs.Prelude.{◌≡◌, ◌+◌, ◌<◌, ◌≤◌, IfErr, IfOk, OnOk, [], None, false, length, true};
 ghost use Rattle.mq_blocks.specs.Geometry.{homes_of, queues_of};
 ghost use Rattle.mq_desk_laws.specs.Rule.{shape_of};
 ghost use Rattle.mq_journal.specs.Sweeping.{HasSwept};
@@ -18,8 +18,9 @@ use crate::attempting::attempt;
 use crate::checkpointing::checkpoint;
 use crate::committing::Miss;
 use crate::executor::Executor;
+use crate::gate::{Gate, Point};
 use crate::users::{CALL_LIMIT, User};
-use mq_blocks::Geometry;
+use mq_blocks::{Geometry, QueueNo};
 use mq_drive::Port;
 use mq_journal::{CheckpointRefusal, Groups, JournalMachine, drain_all};
 use mq_queue_side::Cause;
@@ -60,8 +61,8 @@ fn no_room(why: CheckpointRefusal) -> Refusal
     }
 }
 
-/// Drains each queue, so that every number up to the answer's is done.
-pub fn drain<P: Port + Drop, G: Groups, A, R: Wait>(
+// Drains each queue, so that every number up to the answer's is done.
+fn drain<P: Port + Drop, G: Groups, A, R: Wait>(
     rt: &R,
     desk: &Desk<JournalMachine<P, G>>,
     geometry: Geometry,
@@ -147,9 +148,9 @@ fn act_again<P: Port + Drop, G: Executor, R: Wait>(
     }
 }
 
-/// Does a group as the session's next call. Where its plan does not fit the journal area, it makes a
-/// checkpoint and begins again, once. The answer waits for no drain of the group.
-pub fn act<P: Port + Drop, G: Executor, R: Wait>(
+// Does a group as the session's next call. Where its plan does not fit the journal area, it makes a
+// checkpoint and begins again, once. The answer waits for no drain of the group.
+fn carry_out<P: Port + Drop, G: Executor, R: Wait>(
     rt: &R,
     alloc: Global,
     desk: &Desk<JournalMachine<P, G>>,
@@ -202,15 +203,73 @@ pub fn act<P: Port + Drop, G: Executor, R: Wait>(
     }
 }
 
-/// Does a group as `act` does, and waits until every number up to the answer's is done: from then on all of
-/// them survive a power cut, including those of other sessions.
-pub fn act_durably<P: Port + Drop, G: Executor, R: Wait>(
+// Passes the gate, where a commit was rung.
+fn pass_rung<T: Gate, A>(gate: &T, queue: QueueNo, answer: &Answer<A>) {
+    if answer.drew {
+        gate.pass(queue.0, Point::Rung);
+    }
+}
+
+/// Does a group as the session's next call. Where its plan does not fit the journal area, it makes a
+/// checkpoint and begins again, once. The answer waits for no drain of the group. The gate is passed once the
+/// commit is rung, and before the answer.
+pub fn act<P: Port + Drop, G: Executor, R: Wait, T: Gate>(
     rt: &R,
     alloc: Global,
     desk: &Desk<JournalMachine<P, G>>,
     geometry: Geometry,
     session: &mut User<JournalMachine<P, G>>,
     requests: &[G::Request],
+    gate: &T,
+) -> Result<Answer<G::Reply>, Refusal>
+    requires at { AtDesk desk.now session.old.chair }
+    requires geometry { shape_of (side_values P.state P.faults) G.group (start_of desk.now) ≡ geometry }
+    requires pages { length (start_of desk.now).pages ≡ homes_of geometry }
+    requires sides { length (start_of desk.now).sides ≡ queues_of geometry }
+    requires chairs { chairs_of desk.now ≤ 32 }
+    requires ready { IsReady G.group geometry session.old.queue session.old.calls session.old.held
+        (view session.old.chair) }
+    ensures at { AtDesk desk.now session.new.chair }
+    ensures ready { IsReady G.group geometry session.new.queue session.new.calls session.new.held
+        (view session.new.chair) }
+    ensures queue { session.new.queue ≡ session.old.queue }
+    ensures calls { session.old.calls < CALL_LIMIT → session.new.calls ≡ session.old.calls + 1 }
+    ensures goes { GoesOn (view session.old.chair) (view session.new.chair) }
+    ensures acts { IfOk result (λ a. HasActed P.state P.faults G.group G.calls geometry
+        (call_by session.old.queue session.old.calls false requests.now) a.at a.drew a.replies.items
+        (view session.old.chair) (view session.new.chair)) }
+    ensures waits { IfOk result (λ a. HasNotWaited P.state P.faults G.group G.calls geometry
+        (call_by session.old.queue session.old.calls false requests.now) a.at a.drew
+        (view session.old.chair) (view session.new.chair)) }
+    ensures seen { IfOk result (λ a. a.at ≤ (view session.new.chair).seen) }
+    ensures refused { IfErr result (λ r. IsRefused P.state P.faults G.group G.calls geometry
+        (call_by session.old.queue session.old.calls false requests.now)
+        (view session.old.chair) (view session.new.chair) r.cause r.drawn) }
+{
+    let queue = session.queue;
+    match carry_out(rt, alloc, desk, geometry, session, requests, false) {
+        Ok(answer) => {
+            pass_rung(gate, queue, &answer);
+            gate.pass(queue.0, Point::Answered);
+            Ok(answer)
+        }
+        Err(refusal) => {
+            gate.pass(queue.0, Point::Answered);
+            Err(refusal)
+        }
+    }
+}
+
+/// Does a group as `act` does, and waits until every number up to the answer's is done: from then on all of
+/// them survive a power cut, including those of other sessions.
+pub fn act_durably<P: Port + Drop, G: Executor, R: Wait, T: Gate>(
+    rt: &R,
+    alloc: Global,
+    desk: &Desk<JournalMachine<P, G>>,
+    geometry: Geometry,
+    session: &mut User<JournalMachine<P, G>>,
+    requests: &[G::Request],
+    gate: &T,
 ) -> Result<Answer<G::Reply>, Refusal>
     requires at { AtDesk desk.now session.old.chair }
     requires geometry { shape_of (side_values P.state P.faults) G.group (start_of desk.now) ≡ geometry }
@@ -232,11 +291,20 @@ pub fn act_durably<P: Port + Drop, G: Executor, R: Wait>(
         (call_by session.old.queue session.old.calls true requests.now)
         (view session.old.chair) (view session.new.chair) r.cause r.drawn) }
 {
-    match act(rt, alloc, desk, geometry, session, requests, true) {
-        Ok(answer) => match drain(rt, desk, geometry, session, &answer) {
-            Ok(()) => Ok(answer),
-            Err(refusal) => Err(refusal),
-        },
-        Err(refusal) => Err(refusal),
+    let queue = session.queue;
+    match carry_out(rt, alloc, desk, geometry, session, requests, true) {
+        Ok(answer) => {
+            pass_rung(gate, queue, &answer);
+            let drained = drain(rt, desk, geometry, session, &answer);
+            gate.pass(queue.0, Point::Answered);
+            match drained {
+                Ok(()) => Ok(answer),
+                Err(refusal) => Err(refusal),
+            }
+        }
+        Err(refusal) => {
+            gate.pass(queue.0, Point::Answered);
+            Err(refusal)
+        }
     }
 }

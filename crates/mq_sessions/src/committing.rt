@@ -4,7 +4,7 @@ use mq_queue_side::{Cause, Prepared};
 
 /// What keeps a group from being drawn.
 #[derive(Drop)]
-pub enum Obstacle {
+pub(crate) enum Obstacle {
     Memory,
     /// The journal area has no room for it.
     Area,
@@ -25,14 +25,14 @@ impl From<OutOfMemory> for Obstacle {
 
 /// A group that may be drawn: its commit with all the memory that it takes, and its entry.
 #[derive(Drop)]
-pub struct Ready<E> {
+pub(crate) struct Ready<E> {
     pub prepared: Prepared,
     pub entry: E,
 }
 
 /// Why a group was not done.
 #[derive(Clone, Copy)]
-pub enum Miss {
+pub(crate) enum Miss {
     /// Its plan does not fit the journal area, and nothing was changed.
     AreaFull,
     /// There was no memory for it.

@@ -60,7 +60,7 @@ fn give_side<P: Port + Drop, G: Groups>(
 }
 
 /// Gives back the side and the pages of a group that is not drawn, and reports a refusal of its port.
-pub fn give_up<P: Port + Drop, G: Groups>(
+pub(crate) fn give_up<P: Port + Drop, G: Groups>(
     desk: &Desk<JournalMachine<P, G>>,
     chair: &mut Chair<JournalMachine<P, G>>,
     side: QueueSide<P, G::Entry>,
@@ -138,7 +138,7 @@ fn miss_of(obstacle: Obstacle) -> Miss
 
 /// Draws and sends a group that changes something. The session holds the group's pages; it takes the side
 /// of its queue, and gives all turns back. The error says why it was not done, and which number was drawn.
-pub fn commit<P: Port + Drop, G: Executor, R: Wait>(
+pub(crate) fn commit<P: Port + Drop, G: Executor, R: Wait>(
     rt: &R,
     alloc: Global,
     desk: &Desk<JournalMachine<P, G>>,

@@ -78,7 +78,7 @@ fn page_with(
 
 /// The page of a block after the transaction of a group. A session goes through the pages that it holds
 /// from the greatest block down, and gives each back. The content of a write is moved into its page.
-pub fn page_after(
+pub(crate) fn page_after(
     block: BlockNo,
     cell: PageCell,
     number: TxNo,

@@ -18,7 +18,7 @@ use mq_turns::{Chair, Desk, Item, Turn};
 /// Applies the group with this number to each page that is held, and gives all of them back, the greatest
 /// block first. The contents that were written are moved into their pages. What a page becomes does not
 /// depend on the queue, so the transaction is named with queue 0. It takes no memory.
-pub fn give_drawn_pages<P: Port + Drop, G: Groups>(
+pub(crate) fn give_drawn_pages<P: Port + Drop, G: Groups>(
     desk: &Desk<JournalMachine<P, G>>,
     chair: &mut Chair<JournalMachine<P, G>>,
     held: &mut Held,

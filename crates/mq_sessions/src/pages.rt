@@ -12,7 +12,7 @@ use std::sync::Wait;
 
 /// Waits for the pages of these blocks, one after another, and takes their cells into what is held. The
 /// blocks rise, and each is above all that the chair holds. It takes no memory.
-pub fn take_pages<M: Machine<Page = PageCell>, R: Wait>(
+pub(crate) fn take_pages<M: Machine<Page = PageCell>, R: Wait>(
     rt: &R,
     desk: &Desk<M>,
     chair: &mut Chair<M>,
@@ -40,7 +40,7 @@ pub fn take_pages<M: Machine<Page = PageCell>, R: Wait>(
 }
 
 /// Gives back all pages that are held, the greatest block first. What else the chair holds stays with it.
-pub fn give_back_pages<M: Machine<Page = PageCell>>(
+pub(crate) fn give_back_pages<M: Machine<Page = PageCell>>(
     desk: &Desk<M>,
     chair: &mut Chair<M>,
     held: &mut Held,

@@ -28,7 +28,7 @@ fn plan_write(held: &Held, write: &Write) -> Planned
 
 /// For each block that a group writes, what the rule of placement needs to know, from the pages that its
 /// session holds.
-pub fn plan_writes(
+pub(crate) fn plan_writes(
     alloc: Global,
     held: &Held,
     writes: &[Write],

@@ -31,7 +31,7 @@ use mq_turns::{Chair, Desk};
 use std::alloc::Global;
 
 /// The refusal of a side that keeps a failure.
-pub fn kept_cause<P: Port, E>(side: &QueueSide<P, E>) -> Option<Cause>
+pub(crate) fn kept_cause<P: Port, E>(side: &QueueSide<P, E>) -> Option<Cause>
     ensures { result ≡ cause_kept side.now.kept }
 {
     let (tx, why) = side.kept()?;
@@ -39,7 +39,7 @@ pub fn kept_cause<P: Port, E>(side: &QueueSide<P, E>) -> Option<Cause>
 }
 
 /// Reads a front, and then the base.
-pub fn read_words<P: Port + Drop, G: Groups>(
+pub(crate) fn read_words<P: Port + Drop, G: Groups>(
     desk: &Desk<JournalMachine<P, G>>,
     chair: &mut Chair<JournalMachine<P, G>>,
 ) -> Reads
@@ -55,7 +55,7 @@ pub fn read_words<P: Port + Drop, G: Groups>(
 }
 
 /// Places the blocks that a group writes, on the pages that are held.
-pub fn place(
+pub(crate) fn place(
     alloc: Global,
     geometry: Geometry,
     queue: QueueNo,
@@ -78,7 +78,7 @@ pub fn place(
 
 /// Makes sure that the side has room for what is placed so. If its ring has too little room, it is
 /// drained.
-pub fn make_room<P: Port + Drop, G: Groups>(
+pub(crate) fn make_room<P: Port + Drop, G: Groups>(
     desk: &Desk<JournalMachine<P, G>>,
     chair: &Chair<JournalMachine<P, G>>,
     side: &mut QueueSide<P, G::Entry>,
@@ -138,7 +138,7 @@ fn prepare<P: Port + Drop, G: Executor>(
 
 /// Places the blocks of a group by a front and a base that it reads, makes room for them on the side of
 /// its queue, and prepares its commit. The session holds the side and the group's pages throughout.
-pub fn make_ready<P: Port + Drop, G: Executor>(
+pub(crate) fn make_ready<P: Port + Drop, G: Executor>(
     alloc: Global,
     desk: &Desk<JournalMachine<P, G>>,
     chair: &mut Chair<JournalMachine<P, G>>,

@@ -43,7 +43,7 @@ fn look_and_leave<P: Port + Drop, G: Groups>(
 
 /// Reads a group that is not drawn, since it changes nothing or too much: notes it at the newest number,
 /// and gives back the pages of the session.
-pub fn read_group<P: Port + Drop, G: Executor>(
+pub(crate) fn read_group<P: Port + Drop, G: Executor>(
     alloc: Global,
     desk: &Desk<JournalMachine<P, G>>,
     chair: &mut Chair<JournalMachine<P, G>>,

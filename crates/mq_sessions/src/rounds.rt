@@ -61,7 +61,7 @@ fn run_in_rounds<P: Port + Drop, G: Executor, R: Wait>(
 }
 
 /// Looks, and reads no group.
-pub fn look_only<P: Port + Drop, G: Groups>(
+pub(crate) fn look_only<P: Port + Drop, G: Groups>(
     desk: &Desk<JournalMachine<P, G>>,
     chair: &mut Chair<JournalMachine<P, G>>,
 )
@@ -80,7 +80,7 @@ pub fn look_only<P: Port + Drop, G: Groups>(
 /// those that the group misses; their blocks are wanted from then on. The chair then holds just the pages
 /// of the wanted blocks. What the group comes to is decided by these pages alone, and nobody else changes
 /// them, so the outcome holds whatever is drawn meanwhile. On out of memory the chair is left with no turn.
-pub fn run_held<P: Port + Drop, G: Executor, R: Wait>(
+pub(crate) fn run_held<P: Port + Drop, G: Executor, R: Wait>(
     rt: &R,
     alloc: Global,
     desk: &Desk<JournalMachine<P, G>>,

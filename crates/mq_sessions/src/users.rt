@@ -1,5 +1,5 @@
 // The users of a desk.
-ghost use Rattle.std.specs.Prelude.{◌≡◌};
+ghost use Rattle.std.specs.Prelude.{◌≡◌, ◌+◌, ◌<◌, ◌≤◌};
 
 use mq_blocks::{BlockNo, QueueNo};
 use mq_pages::Held;
@@ -14,21 +14,21 @@ pub const CALL_LIMIT: u64 = 1 << 57;
 /// its own.
 #[derive(Drop)]
 pub struct User<M: Machine> {
-    pub chair: Chair<M>,
+    pub(crate) chair: Chair<M>,
     /// The queue, which has the session's number.
-    pub queue: QueueNo,
+    pub(crate) queue: QueueNo,
     /// How many calls were made.
-    pub calls: u64,
+    pub(crate) calls: u64,
     /// Room for what a call takes, reserved once.
-    pub wanted: Vec<BlockNo>,
-    pub held: Held,
-    pub plan: Placement,
+    pub(crate) wanted: Vec<BlockNo>,
+    pub(crate) held: Held,
+    pub(crate) plan: Placement,
 }
 
 /// A chair at the desk of a machine that belongs to no session.
 #[derive(Drop)]
 pub struct Aide<M: Machine> {
-    pub chair: Chair<M>,
+    pub(crate) chair: Chair<M>,
 }
 
 impl<M: Machine> User<M> {
@@ -37,5 +37,16 @@ impl<M: Machine> User<M> {
         ensures { result ≡ self.now.queue }
     {
         self.queue
+    }
+
+    /// Counts a call that is refused before it takes a turn, unless as many as may be were made.
+    pub fn count_call(&mut self)
+        ensures kept { self.new ≡ record self.old { calls = self.new.calls } }
+        ensures one { self.old.calls < CALL_LIMIT → self.new.calls ≡ self.old.calls + 1 }
+        ensures limit { CALL_LIMIT ≤ self.old.calls → self.new.calls ≡ self.old.calls }
+    {
+        if self.calls < CALL_LIMIT {
+            self.calls += 1;
+        }
     }
 }

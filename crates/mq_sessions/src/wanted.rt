@@ -39,7 +39,7 @@ fn are_above(blocks: &[BlockNo], wanted: &[BlockNo]) -> bool
 /// Takes the pages of further blocks, for a chair that holds just the pages of the wanted ones. If one of
 /// the blocks is below the last that is wanted, all pages are given back, and those of the larger set
 /// taken, so that the chair takes its turns in rising order. On out of memory everything is as it was.
-pub fn take_more<M: Machine<Page = PageCell>, R: Wait>(
+pub(crate) fn take_more<M: Machine<Page = PageCell>, R: Wait>(
     rt: &R,
     desk: &Desk<M>,
     chair: &mut Chair<M>,

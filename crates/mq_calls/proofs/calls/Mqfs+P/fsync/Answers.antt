@@ -1,29 +1,14 @@
-use Rattle.std.proofs.Common.{true}
+use Rattle.std.proofs.Common.{true, refl, subst, sym}
 use Rattle.mq_turns.specs.AtDesk.{view}
 use Rattle.mq_calls.specs.Calling.{call_by}
-use Rattle.mq_calls.specs.Synchronizing.{before}
-use Rattle.mq_calls.proofs.ActsComposing.{durable-of, not-durable}
-use Rattle.mq_sessions.proofs.Attempts.{goes-then}
+use Rattle.mq_calls.specs.Synchronizing.{IsNotDurable}
+use Rattle.mq_queue_side.specs.declared.answers.Refusal.{Refusal}
 use Rattle.mq_calls.proofs.calls.Mqfs+P.fsync.Goals as goal
 
-pub returns-in-Ok-drained-clause-goes : goal.returns-in-Ok-drained-clause-goes
-returns-in-Ok-drained-clause-goes g c = goes-then (view c.args.session.now.chair) (view c.act.new.session.chair) (view c.drain-drained.new.session.chair) c.act.ensures.goes c.drain-drained.ensures.goes
-
-pub returns-in-Ok-drained-clause-durable : goal.returns-in-Ok-drained-clause-durable
-returns-in-Ok-drained-clause-durable g c =
-    let s = c.args.session.now in
-    let a = c.in-Ok.answer in
-    durable-of g.P.Port.state g.P.Port.faults c.args.self.now.geometry (call_by s.queue s.calls true c.args.requests.now) a.at a.drew a.replies.items (view s.chair) (view c.act.new.session.chair) (view c.drain-drained.new.session.chair) c.in-Ok.ensures.acts c.in-Ok-drained.ensures.swept c.in-Ok-drained.ensures.done
-
-pub returns-in-Err-drained-clause-goes : goal.returns-in-Err-drained-clause-goes
-returns-in-Err-drained-clause-goes g c = goes-then (view c.args.session.now.chair) (view c.act.new.session.chair) (view c.drain-drained.new.session.chair) c.act.ensures.goes c.drain-drained.ensures.goes
-
-pub returns-in-Err-drained-clause-refused : goal.returns-in-Err-drained-clause-refused
-returns-in-Err-drained-clause-refused g c =
-    let s = c.args.session.now in
-    let a = c.in-Ok.answer in
-    let r = c.in-Err-drained.refusal in
-    not-durable g.P.Port.state g.P.Port.faults c.args.self.now.geometry (call_by s.queue s.calls true c.args.requests.now) a.at a.drew a.replies.items (view s.chair) (view c.act.new.session.chair) (view c.drain-drained.new.session.chair) r.cause r.drawn c.in-Ok.ensures.acts c.in-Err-drained.ensures.refused
-
 pub returns-in-Err-clause-refused : goal.returns-in-Err-clause-refused
-returns-in-Err-clause-refused g c = before c.in-Err.ensures.refused
+returns-in-Err-clause-refused g c =
+    let s = c.args.session.now in
+    let v = view s.chair in
+    let w = view c.act_durably.new.session.chair in
+    let call = call_by s.queue s.calls true c.args.requests.now in
+    subst (λ (x : Refusal). IsNotDurable g.P.Port.state g.P.Port.faults c.args.self.now.geometry call v w x.cause x.drawn) (sym c.refused.ensures) (record { why = c.in-Err.refusal.cause; cause_is = refl; is = c.in-Err.ensures.refused })

@@ -10,7 +10,7 @@ use Rattle.mq_sessions.proofs.Attempts.{goes-at-once, goes-then}
 use Rattle.mq_sessions.proofs.AttemptsAgain.{acted-at-once, full-of, ready-full, refused-at-once, turned-of, waits-at-once}
 use Rattle.mq_sessions.proofs.AttemptsComposing.{called-acts, called-turned}
 use Rattle.mq_sessions.proofs.SessionsCalled.{keeps-at-once, ready-attempted}
-use Rattle.mq_sessions.proofs.acting.act.Goals as goal
+use Rattle.mq_sessions.proofs.acting.carry_out.Goals as goal
 
 pub returns-then-session-ge-CALL_LIMIT-clause-goes : goal.returns-then-session-ge-CALL_LIMIT-clause-goes
 returns-then-session-ge-CALL_LIMIT-clause-goes g c = goes-at-once (view c.args.session.now.chair)

@@ -4,7 +4,7 @@ use Rattle.mq_turns.specs.AtDesk.{view}
 use Rattle.mq_turns.specs.Meaning.{newest}
 use Rattle.mq_journal.proofs.Steps.{moves_look, moves_on, refused_on}
 use Rattle.mq_journal.proofs.StepsDrains.{refused_by, refused_held, swept_held, swept_moves}
-use Rattle.mq_journal.proofs.catching_up.settle.Goals as goal
+use Rattle.mq_journal.proofs.catching_up.catch_up.Goals as goal
 
 pub returns-clause-held : goal.returns-clause-held
 returns-clause-held g c =
