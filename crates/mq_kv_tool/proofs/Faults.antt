@@ -5,7 +5,7 @@ use Rattle.std.specs.List.{Contains}
 use Rattle.std.specs.Prelude.{nat_eq}
 use Rattle.mq_cli.specs.Asked.{Words}
 use Rattle.mq_command_io.specs.Ending.{EndsWith, IsNotLoaded, IsNotSaved, fault_line, load_failed, load_memory, load_too_long, memory_line, save_failed, save_line, save_memory, too_long_line}
-use Rattle.mq_command_io.proofs.Ending.{not-loaded-same, keeps}
+use Rattle.mq_command_io.proofs.Ending.{not-loaded-same}
 use Rattle.mq_kv_cli.specs.Asked.{Asked, asked_of}
 use Rattle.mq_kv_text.specs.Reports.{usage_text}
 use Rattle.mq_kv_tool.specs.Outcome.{IsCutOff, IsFault, IsOutOfMemory, KeepsOrGives, gives, keeps, of_line, of_load, of_memory, of_output, of_save}

@@ -7,7 +7,7 @@ use Rattle.mq_cli.specs.Asked.{Words}
 use Rattle.mq_cli.specs.declared.refusal.WordsRefusal.{WordsRefusal}
 use Rattle.mq_cli.specs.declared.refusal.WordsRefusal.TheVariants as refusal
 use Rattle.mq_command_io.specs.Ending.{EndsWith, IsNotLoaded, IsNotSaved, IsUnlessFailed, load_failed, load_memory, load_too_long, memory_line, save_failed, save_memory, HoldsTooMuch, TakesUpTo, KeepsOthers, said}
-use Rattle.mq_command_io.proofs.Ending.{four-or-six, not-loaded-same, unless_wanting, said_or, not-saved-zero, not-loaded-zero, low_failed}
+use Rattle.mq_command_io.proofs.Ending.{four-or-six, not-loaded-same, unless_wanting, said_or, not-saved-zero, not-loaded-zero, low_failed, keeps}
 use Rattle.mq_kv_cli.specs.Asked.{Asked, apply, asked_of, help, make, version}
 use Rattle.mq_kv_cli.specs.declared.command.ApplyOptions.{ApplyOptions}
 use Rattle.mq_kv_text.specs.Reports.{usage_text}
@@ -33,7 +33,6 @@ use Rattle.mq_kv_tool.specs.Outcome.{HasApplied, HasMade, IsMisreadFile}
 use Rattle.mq_kv_tool.specs.Program.{AreUnknown, IsSaid, IsStatus, IsToSay, IsTooLong, KeepsNames, TakesFor, loaded_by, loaded_names, no_command, no_memory, of_command, saved_by, saved_names}
 use Rattle.mq_kv_tool.specs.Says.{Says, kv_options}
 use Rattle.mq_kv_tool.proofs.Course.{MisreadOf, course, misread-of, told}
-use Rattle.mq_kv_tool.proofs.Course as courses
 use Rattle.mq_outside.specs.Outside.{FilesState, Held, Holds, Rose, SinkState, Tells, appended}
 
 -- ---- what there was to say
@@ -52,7 +51,7 @@ pub record SaysWords (words : Words) (old new : FilesState) (status : ℕ) (text
 words-nothing : (words : Words) (old new : FilesState) (status : ℕ) (text : List ℕ) → (status ≡ 1) ⊎ (status ≡ 6) → IsStatus status → (status ≡ 1 → AreUnknown words × (text ≡ usage_text)) → new ≡ old → SaysWords words old new status text
 words-nothing words old new status text which is usage same = record {
   is = is;
-  names = courses.keeps (saved_by (asked_of words)) old new (ap (λ (f : FilesState). f.contents) same);
+  names = keeps (saved_by (asked_of words)) old new (ap (λ (f : FilesState). f.contents) same);
   low = λ _. ap (λ (f : FilesState). f.contents) same;
   faults = λ _. ap (λ (f : FilesState). f.faults) same;
   fault = λ four. absurd (elim which [ inl one ↦ omega (arith, one, four) | inr six ↦ omega (arith, six, four) ]);
