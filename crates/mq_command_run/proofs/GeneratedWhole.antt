@@ -14,7 +14,7 @@ use Rattle.mq_command_run.proofs.GeneratedLasts.{each-line, reaches-last, rung-a
 use Rattle.mq_command_run.proofs.GeneratedWorkload.{workload-bytes, workload-end}
 use Rattle.mq_image.specs.Drives.{IsDrive}
 use Rattle.mq_image.specs.File.{DriveImage, image_bytes}
-use Rattle.mq_image_run.specs.declared.ran.ImageRun.{ImageRun}
+use Rattle.mq_run_laws.specs.declared.ran.ImageRun.{ImageRun}
 use Rattle.mq_image_ops.specs.Empty.{IsEmptyDrive}
 use Rattle.mq_image_ops.specs.Standing.{StandsFor}
 use Rattle.mq_image_ops.specs.Views.{view_of}
@@ -93,7 +93,7 @@ whole-run g scripts r keeps run bytes durable =
     let empty : IsEmptyDrive x.geometry x = subst (λ (h : Geometry). IsEmptyDrive h x) (sym same) run.played.empty in
     let promise = keeps x scripts sessions_alone r run.played.run bytes in
     subst (λ (h : Geometry). IsHistory h scripts r.entries.items × HoldsAll h scripts r.entries.items r.image) same
-    (history scripts r x empty promise bytes durable run.good, holds scripts r x empty promise bytes durable run.good run.played.run.geometry run.played.run.drive)
+    (history scripts r x empty promise bytes durable run.good, holds scripts r x empty promise bytes durable run.good run.played.run.on.geometry run.played.run.on.drive)
 
 -- ---- what stands on the image
 

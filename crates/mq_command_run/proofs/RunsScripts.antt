@@ -16,11 +16,11 @@ use Rattle.mq_image.specs.File.{DriveImage}
 use Rattle.mq_image.specs.declared.fault.FileFault.{FileFault}
 use Rattle.mq_image.proofs.FileForms.{read-faulty, read-once}
 use Rattle.mq_image_run.specs.Limits.{AreWithin, IsFirstAbove}
-use Rattle.mq_image_run.specs.Refusals.{RefusesRun, above_limit, not_mounted, not_readable}
-use Rattle.mq_image_run.specs.Refusals as refusals
-use Rattle.mq_image_run.specs.Runs.{IsRunOf}
-use Rattle.mq_image_run.specs.declared.options.RunOptions.{RunOptions}
-use Rattle.mq_image_run.specs.declared.ran.ImageRun.{ImageRun}
+use Rattle.mq_run_laws.specs.Refusals.{RefusesRun, above_limit, not_mounted, not_readable}
+use Rattle.mq_run_laws.specs.Refusals as refusals
+use Rattle.mq_run_laws.specs.Runs.{IsRunOf}
+use Rattle.mq_run_laws.specs.declared.options.RunOptions.{RunOptions}
+use Rattle.mq_run_laws.specs.declared.ran.ImageRun.{ImageRun}
 use Rattle.mq_run_laws.specs.Cuts.{Starts}
 use Rattle.mq_run_laws.specs.HistoryLaws.{AreSpelled}
 use Rattle.mq_run_laws.proofs.LawsSpelled.{spelled-bytes}
@@ -334,7 +334,7 @@ module _ (o : RunOptions) (name : List ℕ) (names : List (List ℕ)) (old new :
       limit-where few ds top n reads above =
           settled (IsUnlessFailed 3 result) 3 (λ u. u) (refused-three few)
           (λ r less of keeps u.
-          absurd (within-none x of.recovered.found.base top n (of.recovery.base ∙ one-top x of.recovery.ds ds of.recovery.top top of.recovery.plan.read reads) of.within above)) ends.0 ends.1 ends.2 unless
+          absurd (within-none x of.on.recovered.found.base top n (of.on.recovery.base ∙ one-top x of.on.recovery.ds ds of.on.recovery.top top of.on.recovery.plan.read reads) of.on.within above)) ends.0 ends.1 ends.2 unless
 
   pub bad-script-where : (before after : SinkState) → RunEnds o name names old new before after result → HoldBadScript old.contents names → IsUnlessFailed 2 result
   bad-script-where before after ends bad = bad-status bad ends.0 ends.1 ends.2 (unless_wanting ends.0 ends.1 result before after ends.3)

@@ -21,7 +21,7 @@ use Rattle.mq_run_laws.specs.Groups.{IsGroup, group_at}
 use Rattle.mq_run_laws.specs.Histories.{AreOfBytes}
 use Rattle.mq_run_laws.specs.Legal.{IsRun, group_of, next, volume_at}
 use Rattle.mq_run_laws.proofs.LawsSpelled.{filled-bytes, has-script}
-use Rattle.mq_image_run.specs.declared.ran.ImageRun.{ImageRun}
+use Rattle.mq_run_laws.specs.declared.ran.ImageRun.{ImageRun}
 use Rattle.mq_report.specs.Lines.{Line}
 use Rattle.mq_report.specs.declared.line.Told.{Told}
 use Rattle.mq_run_laws.specs.Causes.{ports_of}

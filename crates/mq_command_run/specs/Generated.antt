@@ -8,10 +8,10 @@ use Rattle.mq_queue_side.specs.declared.answers.CallCause.TheVariants.{OutOfMemo
 use Rattle.mq_queue_side.specs.declared.answers.Refusal.{Refusal}
 use Rattle.mq_image.specs.Drives.{IsDrive}
 use Rattle.mq_image.specs.File.{DriveImage, image_bytes}
-use Rattle.mq_image_run.specs.Runs.{IsRunOf}
-use Rattle.mq_image_run.specs.declared.options.Ending.TheVariants.{Sessions}
-use Rattle.mq_image_run.specs.declared.options.RunOptions.{RunOptions}
-use Rattle.mq_image_run.specs.declared.ran.ImageRun.{ImageRun}
+use Rattle.mq_run_laws.specs.Runs.{IsRunOf}
+use Rattle.mq_run_laws.specs.declared.options.Ending.TheVariants.{Sessions}
+use Rattle.mq_run_laws.specs.declared.options.RunOptions.{RunOptions}
+use Rattle.mq_run_laws.specs.declared.ran.ImageRun.{ImageRun}
 use Rattle.mq_image_ops.specs.Empty.{IsEmptyDrive}
 use Rattle.mq_image_ops.specs.Views.{view_of}
 use Rattle.mq_run_laws.specs.Answers.{IsLineOf, is_good}

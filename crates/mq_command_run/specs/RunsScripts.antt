@@ -10,10 +10,10 @@ use Rattle.mq_command_run.specs.Lines.{script_line, scripts_line}
 use Rattle.mq_command_io.specs.Ending.{IsLoaded, IsNotLoaded, IsNotSaved, IsSaved, memory_line}
 use Rattle.mq_image.specs.Drives.{IsRead}
 use Rattle.mq_image.specs.File.{DriveImage, image_bytes}
-use Rattle.mq_image_run.specs.Refusals.{RefusesRun}
-use Rattle.mq_image_run.specs.Runs.{IsRunOf}
-use Rattle.mq_image_run.specs.declared.options.RunOptions.{RunOptions}
-use Rattle.mq_image_run.specs.declared.ran.ImageRun.{ImageRun}
+use Rattle.mq_run_laws.specs.Refusals.{RefusesRun}
+use Rattle.mq_run_laws.specs.Runs.{IsRunOf}
+use Rattle.mq_run_laws.specs.declared.options.RunOptions.{RunOptions}
+use Rattle.mq_run_laws.specs.declared.ran.ImageRun.{ImageRun}
 use Rattle.mq_image_ops.specs.declared.refusal.StandingRefusal.{StandingRefusal}
 use Rattle.mq_image_ops.specs.declared.refusal.StandingRefusal.TheVariants as standing
 use Rattle.mq_outside.specs.Outside.{FilesState, Held, Tells}

@@ -9,7 +9,7 @@ ghost use Rattle.mq_image.specs.Drives.{IsDrive, IsRead};
 ghost use Rattle.mq_image.specs.Faults.{HasFault};
 ghost use Rattle.mq_image.specs.File.{DriveImage as Image};
 ghost use Rattle.mq_image.specs.declared.fault.FileFault.{FileFault};
-ghost use Rattle.mq_image_run.specs.Endings.{limit_of};
+ghost use Rattle.mq_run_laws.specs.Endings.{limit_of};
 ghost use Rattle.mq_image_run.specs.Limits.{AreWithin, IsFirstAbove};
 ghost use Rattle.mq_image_ops.specs.Standing.{HasNoVolume, Reads, StandsFor};
 ghost use Rattle.mq_outside.specs.Outside.{Tells};
@@ -22,9 +22,9 @@ use mq_calls::{CallCause, Gate, Refusal};
 use mq_command_images::{Answer, load_image, refuse_volume, say_answer};
 use mq_command_io::{COMMAND, DONE, NO_MEMORY, load_or_say, save_or_say, say, say_memory};
 use mq_image::{DriveImage, write_image};
-use mq_image_run::{ImageRun, RunOptions, run_image};
 use mq_outside::{Files, Sink};
 use mq_report::{Told, report};
+use mq_run_laws::{ImageRun, RunOptions, run_image};
 use mq_script::{Script, read_script};
 use std::alloc::Global;
 use std::sync::Wait;
@@ -183,7 +183,8 @@ fn run_to_file<R: Threads + Wait + Sync, G: Gate + Sync>(
 // Saves what a run left, and then says its report; where it is not saved, why is said.
 fn save_run<F: Files, K: Sink>(name: &str, ran: &RunFile, files: &mut F, out: &mut K) -> u8
     ensures { (IsSaved name.now ran.now.file.items (F.state files.old) (F.state files.new)
-        × EndsWith ran.now.answer.status ran.now.answer.text.items result (K.state out.old) (K.state out.new))
+        × EndsWith ran.now.answer.status ran.now.answer.text.items result (K.state out.old)
+        (K.state out.new))
         ⊎ ((status : ℕ)
         × (text : List ℕ)
         × IsNotSaved name.now (F.state files.old) (F.state files.new) status text
@@ -211,7 +212,8 @@ fn run_or_say<F: Files, K: Sink, R: Threads + Wait + Sync, G: Gate + Sync>(
     requires scripts { 1 ≤ length scripts.now }
     ensures { (status : ℕ)
         × (text : List ℕ)
-        × Runs options name.now (map (λ s. s.now) scripts.now) (F.state files.old) (F.state files.new) status text
+        × Runs options name.now (map (λ s. s.now) scripts.now) (F.state files.old) (F.state files.new)
+        status text
         × EndsWith status text result (K.state out.old) (K.state out.new) }
 {
     let image = match load_image(alloc, name, files, out) {
@@ -245,7 +247,8 @@ pub fn run<F: Files, K: Sink, R: Threads + Wait + Sync, G: Gate + Sync>(
     requires scripts { 1 ≤ length scripts.now }
     ensures ends { (status : ℕ)
         × (text : List ℕ)
-        × Runs options name.now (map (λ s. s.now) scripts.now) (F.state files.old) (F.state files.new) status text
+        × Runs options name.now (map (λ s. s.now) scripts.now) (F.state files.old) (F.state files.new)
+        status text
         × EndsWith status text result (K.state out.old) (K.state out.new) }
     ensures done_where { (bytes : List ℕ) (x : Image) (v : Volume) (texts : List ReadScript)
         → Tells (F.state files.old).contents name.now (Some bytes)
@@ -277,7 +280,8 @@ pub fn run<F: Files, K: Sink, R: Threads + Wait + Sync, G: Gate + Sync>(
         → length texts ≤ queues_of x.geometry
         → HasNoVolume x
         → IsUnlessFailed 3 result }
-    ensures limit_where { (bytes : List ℕ) (x : Image) (texts : List ReadScript) (ds : List Descriptor) (top n : ℕ)
+    ensures limit_where { (bytes : List ℕ) (x : Image) (texts : List ReadScript) (ds : List Descriptor)
+        (top n : ℕ)
         → Tells (F.state files.old).contents name.now (Some bytes)
         → IsRead x bytes
         → HoldScripts (F.state files.old).contents (map (λ s. s.now) scripts.now) texts

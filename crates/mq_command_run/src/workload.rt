@@ -89,7 +89,8 @@ pub fn generate_and_save<F: Files, K: Sink, R: Threads + Wait + Sync, G: Gate + 
     requires threads { (1 ≤ workload.threads) × (workload.threads ≤ 16) }
     ensures ends { (status : ℕ)
         × (text : List ℕ)
-        × Generates workload (option_map (λ s. s.now) save.entry) (F.state files.old) (F.state files.new) status text
+        × Generates workload (option_map (λ s. s.now) save.entry) (F.state files.old) (F.state files.new)
+        status text
         × EndsWith status text result (K.state out.old) (K.state out.new) }
     ensures done { IsUnlessFailed 0 result }
 {

@@ -1,19 +1,21 @@
 -- Home writes as the machine makes them: on the port of the block's zone, or on the root's.
-use Rattle.std.proofs.Common.{◌≡◌, ℕ, ◌<◌, ◌≤◌, true, Bool, List, length, Option, Some, None, sym, refl, ap, ◌∙◌, arith}
+use Rattle.std.proofs.Common.{◌≡◌, ℕ, ◌<◌, ◌≤◌, true, Bool, List, length, Option, Some, None, Result, sym, refl, ap, ◌∙◌, arith}
 use Rattle.mq_blocks.specs.Drive.{PortState}
 use Rattle.mq_blocks.specs.Geometry.{homes_of, zone_of, home_lba}
 use Rattle.mq_blocks.specs.Journal.{is_among}
 use Rattle.mq_ledger.specs.History.{blocks_of, map_after, last, IsAt}
 use Rattle.mq_ledger.specs.Items.{Entries}
 use Rattle.mq_ledger.specs.State.{State, front_of, port_at, port_of, start_map}
-use Rattle.mq_core.specs.Events.{with_port, content_at}
+use Rattle.mq_core.specs.Events.{with_port}
 use Rattle.mq_core.specs.Homes.{ports_after, root_after, IsIn, IsInZone}
 use Rattle.mq_core.specs.View.{IsHeldBy}
 use Rattle.mq_core.specs.Within.{IsWithin}
-use Rattle.std.specs.Prelude.{Ok}
+use Rattle.mq_core.specs.Answers.{Answers}
+use Rattle.mq_core.specs.declared.event.CoreRefusal.{CoreRefusal}
 use Rattle.mq_ledger.specs.declared.tx.Tx.{Tx}
 use Rattle.mq_core.proofs.Within.{home_within, root_within}
-use Rattle.mq_core.proofs.MachineLifts.{Machine, Told, happened, front_stays}
+use Rattle.mq_core.proofs.MachineLifts.{Machine, Told, front_stays}
+use Rattle.mq_core.proofs.MachineParts.{told_same}
 use Rattle.mq_core.proofs.StateBases.{logged_value}
 use Rattle.mq_core.proofs.StateEvents.{zone-queue}
 use Rattle.mq_core.proofs.StateSides.{HasSides}
@@ -62,11 +64,9 @@ is_there s x f low logged =
     logged_value (start_map s.start) s.base x s.history f.log.numbers (omega arith) logged
 
 -- an event of a machine that changes the block's port by this, and what is under way
-module _ (m : Machine) (v : m.Event) {e : Entries} {due : ℕ → ℕ → Bool} (front : ℕ) (s : State) (x : ℕ) (after : List ℕ → PortState → PortState) (under : List ℕ) (held : IsHeldBy m.Facts front s) (may : m.Allowed v s) (f : HasSides e due s) (inside : x < homes_of s.geometry) (head : (p : PortState) → (after (content_at s x) p).head ≡ p.head) (then : m.happens v s ≡ record (with_port s (zone_of s.geometry x) (after (content_at s x) (port_of s (zone_of s.geometry x)))) { writing = under }) where
-  pub changed : (content : List ℕ) (ports : List PortState) (root : PortState) (writing : List ℕ) → content ≡ content_at s x → ports ≡ ports_after (after content) (zone_of s.geometry x) s.ports → root ≡ root_after (after content) (zone_of s.geometry x) s.root → writing ≡ under
-      → Told m v front s (record s { ports = ports; root = root; writing = writing }) (Ok tt)
-  changed content ports root writing is p r u =
-      happened m v front s (record s { ports = ports; root = root; writing = writing }) held may
-      ((λ i. record s { ports = p i; root = r i; writing = u i }) ∙ ap (λ c. record s { ports = ports_after (after c) (zone_of s.geometry x) s.ports; root = root_after (after c) (zone_of s.geometry x) s.root; writing = under }) is
-      ∙ in_parts s (after (content_at s x)) under (zone_of s.geometry x) ∙ sym then)
-      (ap front_of then ∙ same_front s f x inside (after (content_at s x)) head)
+module _ (m : Machine) (v : m.Event) {e : Entries} {due : ℕ → ℕ → Bool} (front : ℕ) (s : State) (x : ℕ) (after : PortState → PortState) (writing : List ℕ) (held : IsHeldBy m.Facts front s) (f : HasSides e due s) (head : (p : PortState) → (after p).head ≡ p.head) (is : m.happens v s ≡ record (with_port s (zone_of s.geometry x) (after (port_of s (zone_of s.geometry x)))) { writing = writing }) where
+  pub home_told : (new : State) (allowed : Type 0) (r : Result (Unit {0}) CoreRefusal) → Answers allowed (record s { ports = ports_after after (zone_of s.geometry x) s.ports; root = root_after after (zone_of s.geometry x) s.root; writing = writing }) s new r → (allowed → m.Allowed v s) → (m.Allowed v s → allowed) → (allowed → x < homes_of s.geometry)
+      → Told m v front s new r
+  home_told new allowed r a allow deny inside =
+      let parts = in_parts s after writing (zone_of s.geometry x) in
+      told_same m v front s new (record s { ports = ports_after after (zone_of s.geometry x) s.ports; root = root_after after (zone_of s.geometry x) s.root; writing = writing }) allowed r held a allow deny (is ∙ sym parts) (λ k. ap front_of parts ∙ same_front s f x (inside k) after head)

@@ -15,20 +15,22 @@ pub mod StateBases
 pub mod ItemsGoodness
 pub mod ItemsReading
 pub mod StateCuts
+pub mod StateChains
 pub mod StateSafe
 pub mod Reach
 pub mod MachineFacts
 pub mod MachineLifts
-mod MachineCore
+pub mod MachineCore
 pub mod Within
 pub mod Settled
+pub mod MachineParts
 mod Stored
 pub mod HomesWritten
 pub mod DriveHomeWrites
 pub mod EventsTellings
 pub mod HomesCalls
 pub mod Bases
-mod MachineRunning
+pub mod MachineRunning
 mod Start
 mod MachineExamples
 mod MachineRevocations

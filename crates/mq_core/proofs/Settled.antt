@@ -1,19 +1,17 @@
 -- The front is brought forward one by one.
-use Rattle.std.proofs.Common.{set, ◌≡◌, ℕ, ◌+◌, ◌<◌, ◌≤◌, leb, Bool, true, List, [], ◌∷◌, length, get_or, sym, refl, ap, subst, ◌∙◌, inl, inr, arith}
+use Rattle.std.proofs.Common.{◌≡◌, ℕ, ◌+◌, ◌<◌, ◌≤◌, leb, Bool, true, List, [], ◌∷◌, length, get_or, sym, refl, ap, ◌∙◌, inl, inr, arith}
 use Rattle.std.specs.Bool.{IsTrue}
 use Rattle.std.proofs.lemmas.Bool.{cases_order, cases_lt, false≢true}
 use Rattle.std.proofs.lemmas.List.{get_or_read}
-use Rattle.mq_blocks.specs.Drive.{PortState, after_flush}
+use Rattle.mq_blocks.specs.Drive.{PortState}
 use Rattle.mq_ledger.specs.History.{writes, of_queue, AreNumbered, IsAt, part_of}
 use Rattle.mq_ledger.specs.Items.{end_of, descriptor_blocks}
 use Rattle.mq_ledger.specs.Records.{Ledger, IsNextEnd, settle_next}
-use Rattle.mq_ledger.specs.State.{State, is_done, from_at, port_at, no_port, front_of}
+use Rattle.mq_ledger.specs.State.{is_done, from_at, port_at, no_port}
 use Rattle.mq_ledger.specs.declared.queue_rows.QueueEnd.{QueueEnd}
 use Rattle.mq_ledger.specs.declared.tx.Tx.{Tx}
 use Rattle.mq_ledger.proofs.History.{at_most, at_same}
-use Rattle.mq_core.specs.Events.{flush}
 use Rattle.mq_core.specs.Settled.{IsNextDone, IsSettled, with_front, settled}
-use Rattle.mq_core.specs.View.{IsHeldBy, state_with}
 use Rattle.mq_core.proofs.HistoryFronts.{part_le, part_stops, done_below}
 
 -- the transaction of a number
@@ -104,29 +102,3 @@ settled_all l ports s stop =
 -- the first that isn't settled is there
 pub next_high : (l : Ledger) (ports : List PortState) → IsSettled l ports → IsNextDone l ports → l.front < l.base + length l.history
 next_high l ports s next = (let at = next.number in omega (arith, at_most l.base next.tx next.before l.history s.numbers next.stands))
-
--- ---- after the flush of a queue's port
-
--- what is held, of another ledger and other ports that are the same
-pub held_along : (has : State → Type 0) (l k : Ledger) (ps qs : List PortState) (root : PortState) (marks writing acknowledged : List ℕ) → l ≡ k → ps ≡ qs → IsHeldBy has l.front (state_with l ps root marks writing acknowledged) → IsHeldBy has k.front (state_with k qs root marks writing acknowledged)
-held_along has l k ps qs root marks writing acknowledged a b h = subst (λ (m : Ledger). IsHeldBy has m.front (state_with m qs root marks writing acknowledged)) a (subst (λ rs. IsHeldBy has l.front (state_with l rs root marks writing acknowledged)) b h)
-
-module _ (has : State → Type 0) (l : Ledger) (ports : List PortState) (root : PortState) (marks writing acknowledged : List ℕ) (q : ℕ) (numbers : AreNumbered l.base l.history) (held : IsHeldBy has l.front (state_with l ports root marks writing acknowledged)) where
-  abbrev s : State
-  s = state_with l ports root marks writing acknowledged
-
-  abbrev flushed : List PortState
-  flushed = set ports q (after_flush (port_at ports q))
-
-  pub flush_settled : front_of s ≤ front_of (flush q s) → IsSettled l flushed
-  flush_settled more =
-      let higher : l.front ≤ front_of (flush q s) = omega (arith, held.front_is, more) in
-      record {
-        numbers = numbers;
-        low = omega (arith, held.front_is);
-        high = omega (arith, held.front_is, part_le (is_done l.starts ports) l.history);
-        done = λ t ts at below. done_below l.base (is_done l.starts flushed) t ts l.history numbers at (omega (arith, higher));
-      }
-
-  pub flush_held : has (flush q s) → IsHeldBy has (settled flushed l).front (state_with (settled flushed l) flushed root marks writing acknowledged)
-  flush_held kept = record { facts = kept; front_is = refl; idle = held.idle }

@@ -1,4 +1,5 @@
 pub mod Events
+pub mod Runs
 pub mod Machine
 pub mod Answers
 pub mod Start
@@ -6,6 +7,7 @@ pub mod Within
 pub mod Settled
 pub mod Homes
 pub mod Bases
+pub mod Parts
 pub mod View
 pub mod Whole
 pub mod Reach

@@ -1,5 +1,5 @@
 -- The machine: its events, where each is allowed, what each changes, and whole runs.
-use Rattle.std.specs.Prelude.{◌≡◌, ◌<◌, ◌≤◌, ℕ, zero, suc, true, List, [], ◌∷◌, slice_index_or}
+use Rattle.std.specs.Prelude.{◌≡◌, ◌<◌, ◌≤◌, ℕ, true, List, slice_index_or}
 use Rattle.mq_blocks.specs.Journal.{is_among}
 use Rattle.mq_ledger.specs.Items.{Entries}
 use Rattle.mq_ledger.specs.State.{State, IsLawful, known_of, front_of, from_at, port_at}
@@ -7,7 +7,7 @@ use Rattle.mq_ledger.specs.KnownJournal.{MayDraw}
 use Rattle.mq_core.specs.Events.{us_of, draw, stage, flush, ring, complete, fail_command, store_head, clear, acknowledge, write_home, home_done, store_base, flush_base, HasRoom, MayStage, MayFlush, MayRing, MayEnd, MayStoreHead, MayClear, MayWriteHome, MayStoreBase}
 pub use Rattle.mq_core.specs.declared.event.Event.{Event}
 use Rattle.mq_core.specs.declared.event.CoreRefusal.{CoreRefusal}
-use Rattle.mq_core.specs.declared.event.CoreRefusal.TheVariants.{NotAllowed, OutOfMemory}
+use Rattle.mq_core.specs.Runs.{run_by, AreAllowedBy, HoldsAlways, IsRefusedBy, IsRefusalBy}
 pub use Rattle.mq_core.specs.declared.event.Event.TheVariants.{Draw, Stage, Flush, Ring, Complete, FailCommand, StoreHead, FlushHead, Clear, Acknowledge, WriteHome, HomeDone, StoreBase, FlushBase}
 
 abbrev pub happens : Entries → Event → State → State
@@ -51,26 +51,20 @@ IsAllowed e (StoreBase b) s = MayStoreBase e s b
 IsAllowed e FlushBase s = Unit {0}
 
 abbrev pub run : Entries → List Event → State → State
-run e [] s = s
-run e (v ∷ vs) s = run e vs (happens e v s)
+run e vs s = run_by (λ v t. happens e v t) vs s
 
 -- each event is allowed where it happens
 abbrev pub AreAllowed : Entries → List Event → State → Type 0
-AreAllowed e [] s = Unit {0}
-AreAllowed e (v ∷ vs) s = IsAllowed e v s × AreAllowed e vs (happens e v s)
+AreAllowed e vs s = AreAllowedBy (λ v t. IsAllowed e v t) (λ v t. happens e v t) vs s
 
 -- the state is lawful before, after and between the events
 abbrev pub IsAlwaysLawful : Entries → List Event → State → Type 0
-IsAlwaysLawful e [] s = IsLawful e s
-IsAlwaysLawful e (v ∷ vs) s = IsLawful e s × IsAlwaysLawful e vs (happens e v s)
+IsAlwaysLawful e vs s = HoldsAlways (λ t. IsLawful e t) (λ v t. happens e v t) vs s
 
 -- the event at this index is the first that isn't allowed where it happens
 abbrev pub IsRefusedAt : Entries → List Event → State → ℕ → Type 0
-IsRefusedAt e [] s n = ⊥
-IsRefusedAt e (v ∷ vs) s zero = IsAllowed e v s → ⊥
-IsRefusedAt e (v ∷ vs) s (suc n) = IsAllowed e v s × IsRefusedAt e vs (happens e v s) n
+IsRefusedAt e vs s n = IsRefusedBy (λ v t. IsAllowed e v t) (λ v t. happens e v t) vs s n
 
 -- why a run is refused: an event isn't allowed, or out of memory
 abbrev pub IsRefusal : Entries → List Event → State → CoreRefusal → Type 0
-IsRefusal e vs s (NotAllowed n) = IsRefusedAt e vs s n
-IsRefusal e vs s OutOfMemory = Unit {0}
+IsRefusal e vs s r = IsRefusalBy (λ v t. IsAllowed e v t) (λ v t. happens e v t) vs s r

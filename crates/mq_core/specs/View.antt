@@ -1,24 +1,10 @@
 -- The fields of a machine as its state. What is newest stands last in the code, and first in the state.
-use Rattle.std.specs.Prelude.{◌≡◌, ℕ, List, reverse}
-use Rattle.mq_blocks.specs.Drive.{PortState, staged_end}
+use Rattle.std.specs.Prelude.{◌≡◌, ℕ, reverse}
+use Rattle.mq_blocks.specs.Drive.{staged_end}
 use Rattle.mq_ledger.specs.Plain.{plain}
-use Rattle.mq_ledger.specs.Records.{Ledger}
 use Rattle.mq_ledger.specs.State.{State, Facts, front_of}
+pub use Rattle.mq_core.specs.Parts.{state_with}
 use Rattle.mq_core.specs.declared.machine.Core.TheInside.{Inside}
-
-abbrev pub state_with : Ledger → List PortState → PortState → List ℕ → List ℕ → List ℕ → State
-state_with ledger ports root marks writing acknowledged = record {
-  geometry = ledger.geometry;
-  start = ledger.start;
-  base = ledger.base;
-  starts = ledger.starts;
-  history = ledger.history;
-  ports = ports;
-  root = root;
-  marks = marks;
-  writing = writing;
-  acknowledged = acknowledged;
-}
 
 abbrev pub state_of : Inside → State
 state_of c =

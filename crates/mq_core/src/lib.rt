@@ -10,8 +10,8 @@ mod port;
 pub use event::{CoreRefusal, Event};
 pub use laws::{every_run_is_lawful, prefixes_are_whole, reach_is_exact, starts};
 pub use machine::{
-    Core, begin_write, drop_block, drop_changed, end_write, fresh_queues, holds_block, home_block,
-    settle_all,
+    Core, Parts, complete, drop_changed, fail_command, flush, flush_head, fresh_queues, home_done,
+    next_count, ring, stage, store_base, store_head, write_home,
 };
 pub use mq_ledger::{Blocks, Content, PlainEntry, Tx, Writes, copy_blocks, copy_content};
 pub use port::{PlainCommand, PlainHomeWrite, PlainPort};

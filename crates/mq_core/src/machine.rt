@@ -3,6 +3,7 @@ mod bases;
 mod front;
 mod homes;
 mod numbers;
+mod parts;
 mod reach;
 mod rings;
 mod runs;
@@ -14,12 +15,13 @@ ghost use Rattle.mq_ledger.specs.State.{IsLawful};
 ghost use Rattle.mq_core.specs.Start.{start_state, fresh_ports};
 
 use crate::PlainPort;
-pub use bases::home_block;
-pub use front::settle_all;
-pub use homes::{begin_write, drop_block, end_write, holds_block};
+pub use bases::store_base;
+pub use homes::{home_done, write_home};
 use mq_blocks::{BlockNo, Geometry, OutOfMemory, QueueNo, TxNo};
 use mq_ledger::{Content, Ledger, copy_blocks, repeated};
 pub use numbers::drop_changed;
+pub use parts::Parts;
+pub use rings::{complete, fail_command, flush, flush_head, next_count, ring, stage, store_head};
 use std::alloc::Global;
 use std::marker::Model;
 

@@ -1,5 +1,5 @@
 -- The image that a run leaves.
-use Rattle.std.proofs.Common.{◌≡◌, ◌∙◌, List, None, sym, subst}
+use Rattle.std.proofs.Common.{◌≡◌, ◌∙◌, ℕ, Bool, List, None, sym, subst}
 use Rattle.mq_blocks.specs.Drive.{FuseName, PortImage}
 use Rattle.mq_blocks.specs.declared.geometry.Geometry.{Geometry}
 use Rattle.mq_image.specs.Drives.{IsDrive}
@@ -7,17 +7,17 @@ use Rattle.mq_image.specs.File.{DriveImage}
 use Rattle.mq_image_ops.specs.Recovering.{IsRecoveryOf}
 use Rattle.mq_image_ops.specs.declared.recovery.RecoveredImage.{RecoveredImage}
 use Rattle.mq_image_ops.proofs.CutsRecoverings.{left-drive}
-use Rattle.mq_script.specs.Scripts.{Script}
+use Rattle.mq_drive.specs.declared.emu.EmuPort.{EmuPort}
+use Rattle.mq_drive.specs.declared.port.Ports.{Ports}
 use Rattle.mq_image_run.specs.Drives.{HasStopped}
-use Rattle.mq_image_run.specs.declared.options.RunOptions.{RunOptions}
-use Rattle.mq_image_run.specs.declared.stopping.Stopped.{Stopped}
+use Rattle.mq_image_run.specs.declared.options.DriveOptions.{DriveOptions}
 
-module _ (x : DriveImage) (r : RecoveredImage) (recovery : IsRecoveryOf x None r) (fuse : FuseName) (scripts : List Script) (o : RunOptions) (s : Stopped) (stops : HasStopped fuse r.image scripts o s) where
+module _ {T : Type 0} (Plays : Ports EmuPort → T → Ports EmuPort → Type 0) (x : DriveImage) (r : RecoveredImage) (recovery : IsRecoveryOf x None r) (fuse : FuseName) (o : DriveOptions) (played : T) (failed : Bool) (images : List PortImage) (events : ℕ) (stops : HasStopped Plays fuse r.image o played failed images events) where
   abbrev of_drive : Geometry → List PortImage → DriveImage
-  of_drive g images = record { geometry = g; ports = images }
+  of_drive g ports = record { geometry = g; ports = ports }
 
-  pub run-drive : (g : Geometry) → g ≡ x.geometry → IsDrive (of_drive g s.driven.images.items)
+  pub run-drive : (g : Geometry) → g ≡ x.geometry → IsDrive (of_drive g images)
   run-drive g same =
-      let has = stops.drives.has in
-      let left : IsDrive (of_drive r.image.geometry s.driven.images.items) = left-drive r.image has.end.ports o.pick s.driven.images.items stops.seats has.cut has.same_ports in
-      subst (λ (z : Geometry). IsDrive (of_drive z s.driven.images.items)) (recovery.geometry ∙ sym same) left
+      let drives = stops.drives in
+      let left : IsDrive (of_drive r.image.geometry images) = left-drive r.image drives.end o.pick images stops.seats drives.cut drives.kept.same_ports in
+      subst (λ (z : Geometry). IsDrive (of_drive z images)) (recovery.geometry ∙ sym same) left

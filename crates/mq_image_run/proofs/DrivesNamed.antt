@@ -8,7 +8,6 @@ use Rattle.mq_blocks.specs.Geometry.{queues_of}
 use Rattle.mq_drive.specs.Emu.{emu_state, executed_of}
 use Rattle.mq_drive.specs.Limits.{fails_by}
 use Rattle.mq_drive.specs.declared.emu.EmuPort.{EmuPort}
-use Rattle.mq_drive.specs.declared.fuse.FuseSeat.{FuseSeat}
 use Rattle.mq_drive.specs.declared.port.Ports.{Ports}
 use Rattle.mq_image.specs.Drives.{IsDrive}
 use Rattle.mq_image.specs.File.{DriveImage}
@@ -20,11 +19,7 @@ use Rattle.mq_image_ops.proofs.CutsRecoverings.{row-at}
 use Rattle.mq_image_ops.proofs.Views.{start-queue}
 use Rattle.mq_ledger.specs.State.{port_at}
 use Rattle.mq_recover.specs.Drives.{DriveState}
-use Rattle.mq_recover.specs.declared.standing.Standing.{Standing}
-use Rattle.mq_script.specs.Scripts.{Script}
-use Rattle.mq_image_run.specs.Drives.{HasDriven, executed_at, has_failed, was_executed}
-use Rattle.mq_image_run.specs.declared.driving.Driven.{Driven}
-use Rattle.mq_image_run.specs.declared.options.RunOptions.{RunOptions}
+use Rattle.mq_image_run.specs.Drives.{AreKept, executed_at, has_failed, was_executed}
 
 -- ---- ports in a row
 
@@ -67,15 +62,15 @@ named-in (Some f) ps each = one-named f.port f.command ps (λ k s low. (
 
 -- ---- a drive
 
-module _ (fuse : FuseName) (y : DriveImage) (drive : IsDrive y) (scripts : List Script) (o : RunOptions) (d : Driven) (seats : List FuseSeat) (ports : Ports EmuPort) (standing : Standing) (started : AreStarted fuse o.fail y ports) (has : HasDriven y.geometry ports standing scripts o d seats) where
-  count : length has.end.ports.queues.items ≡ queues_of y.geometry
-  count = sym (length-map has.end.ports.queues.items emu_state) ∙ has.same_ports.count
+module _ (fuse : FuseName) (fail : Option Failing) (y : DriveImage) (drive : IsDrive y) (ports end : Ports EmuPort) (started : AreStarted fuse fail y ports) (kept : AreKept y.geometry ports end) where
+  count : length end.queues.items ≡ queues_of y.geometry
+  count = sym (length-map end.queues.items emu_state) ∙ kept.same_ports.count
 
   -- each port has kept the command that it was started with
-  commands : (k : ℕ) (s : PortState) → k < length (row_of has.end.ports) → (get_or (map emu_state (row_of has.end.ports)) k s).fail ≡ command_of o.fail k
-  commands = row-at y.geometry has.end.ports count (λ k s. s.fail ≡ command_of o.fail k)
-      (λ q low. (has.bounds.queues q low).fail ∙ (ap (λ (s : DriveState). (port_at s.queues q).fail) started.states ∙ ap (λ (s : PortState). s.fail) (start-queue fuse o.fail y q drive low)))
-      (has.bounds.root.fail ∙ ap (λ (s : DriveState). s.root.fail) started.states)
+  commands : (k : ℕ) (s : PortState) → k < length (row_of end) → (get_or (map emu_state (row_of end)) k s).fail ≡ command_of fail k
+  commands = row-at y.geometry end count (λ k s. s.fail ≡ command_of fail k)
+      (λ q low. (kept.bounds.queues q low).fail ∙ (ap (λ (s : DriveState). (port_at s.queues q).fail) started.states ∙ ap (λ (s : PortState). s.fail) (start-queue fuse fail y q drive low)))
+      (kept.bounds.root.fail ∙ ap (λ (s : DriveState). s.root.fail) started.states)
 
-  pub named-is : d.failed ≡ was_executed o.fail (row_of has.end.ports)
-  named-is = has.failed ∙ named-in o.fail (row_of has.end.ports) commands
+  pub named-is : has_failed (row_of end) ≡ was_executed fail (row_of end)
+  named-is = named-in fail (row_of end) commands

@@ -1,8 +1,7 @@
-pub mod ScriptsCounting
-pub mod DrivesMounting
-pub mod RunsEnded
-pub mod Refusals
-pub mod DrivesNamed
-pub mod RunsPowered
-pub mod Seats
 pub mod DrivesImages
+pub mod DrivesNamed
+pub mod Leads
+pub mod Powered
+pub mod Refusals
+pub mod Seats
+pub mod Starts

@@ -1,8 +1,8 @@
 -- What the seats of a drive show, once its power was cut.
-use Rattle.std.proofs.Common.{◌≡◌, ℕ, zero, suc, ◌+◌, ◌<◌, List, [], ◌∷◌, All, Option, None, Some, length, map, get_or, refl, sym, ap, subst, ◌∙◌, arith}
+use Rattle.std.proofs.Common.{◌≡◌, ℕ, Bool, zero, suc, ◌+◌, ◌<◌, List, [], ◌∷◌, All, Option, None, Some, length, map, get_or, refl, sym, ap, subst, ◌∙◌, arith}
 use Rattle.std.specs.Prelude.{Contains}
 use Rattle.std.proofs.lemmas.List.{length-map}
-use Rattle.mq_blocks.specs.Drive.{FuseName, PortState}
+use Rattle.mq_blocks.specs.Drive.{FuseName, PortImage, PortState}
 use Rattle.mq_blocks.specs.Geometry.{queues_of}
 use Rattle.mq_blocks.specs.Totals.{total}
 use Rattle.mq_drive.specs.Emu.{emu_faults, emu_state}
@@ -11,6 +11,7 @@ use Rattle.mq_drive.specs.Seats.{fuse_of, tickets_of}
 use Rattle.mq_drive.specs.Steps.{PowerOff}
 use Rattle.mq_drive.specs.declared.emu.EmuPort.{EmuPort}
 use Rattle.mq_drive.specs.declared.fuse.FuseSeat.{FuseSeat}
+use Rattle.mq_drive.specs.declared.port.Ports.{Ports}
 use Rattle.mq_image.specs.Drives.{IsDrive}
 use Rattle.mq_image.specs.File.{DriveImage}
 use Rattle.mq_image_ops.specs.Cuts.{CutPort, IsCutPort, row_of}
@@ -20,10 +21,8 @@ use Rattle.mq_image_ops.proofs.Views.{start-queue}
 use Rattle.mq_ledger.specs.State.{port_at}
 use Rattle.mq_recover.specs.Drives.{DriveState, drive_of}
 use Rattle.mq_recover.proofs.DrivesZones.{IsZone, port_in}
-use Rattle.mq_script.specs.Scripts.{Script}
 use Rattle.mq_image_run.specs.Drives.{IsDriven, events_on}
-use Rattle.mq_image_run.specs.declared.driving.Driven.{Driven}
-use Rattle.mq_image_run.specs.declared.options.RunOptions.{RunOptions}
+use Rattle.mq_image_run.specs.declared.options.DriveOptions.{DriveOptions}
 
 mapped : (ps : List EmuPort) (k : ℕ) (p : EmuPort) → get_or ps k p ≡ p → get_or (map emu_state ps) k (emu_state p) ≡ emu_state p
 mapped [] k p at = refl
@@ -40,29 +39,29 @@ cut-of pick (c ∷ cs) each (suc k) p low at =
     let within = rest.1.1 in
     (rest.0, (suc rest.1.0, omega (arith, within), rest.1.2), rest.2, rest.3)
 
-module _ (fuse : FuseName) (y : DriveImage) (drive : IsDrive y) (scripts : List Script) (o : RunOptions) (d : Driven) (seats : List FuseSeat) (driven : IsDriven fuse y scripts o d seats) where
+module _ {T : Type 0} (Plays : Ports EmuPort → T → Ports EmuPort → Type 0) (fuse : FuseName) (y : DriveImage) (drive : IsDrive y) (o : DriveOptions) (played : T) (failed : Bool) (images : List PortImage) (seats : List FuseSeat) (driven : IsDriven Plays fuse y o played failed images seats) where
   abbrev row : List EmuPort
-  row = row_of driven.has.end.ports
+  row = row_of driven.end
 
-  count : length driven.has.end.ports.queues.items ≡ queues_of y.geometry
-  count = sym (length-map driven.has.end.ports.queues.items emu_state) ∙ driven.has.same_ports.count
+  count : length driven.end.queues.items ≡ queues_of y.geometry
+  count = sym (length-map driven.end.queues.items emu_state) ∙ driven.kept.same_ports.count
 
   -- each port has the fuse of the drive
-  bound : (z : Option ℕ) → IsZone y.geometry z → (port_in (drive_of emu_state driven.has.end.ports) z).fuse ≡ fuse
-  bound None zone = driven.has.bounds.root.fuse ∙ ap (λ (s : DriveState). s.root.fuse) driven.started.states
+  bound : (z : Option ℕ) → IsZone y.geometry z → (port_in (drive_of emu_state driven.end) z).fuse ≡ fuse
+  bound None zone = driven.kept.bounds.root.fuse ∙ ap (λ (s : DriveState). s.root.fuse) driven.started.states
   bound (Some q) zone =
-      (driven.has.bounds.queues q zone).fuse
+      (driven.kept.bounds.queues q zone).fuse
       ∙ (ap (λ (s : DriveState). (port_at s.queues q).fuse) driven.started.states
       ∙ ap (λ (s : PortState). s.fuse) (start-queue fuse o.fail y q drive zone))
 
   fuses : (k : ℕ) (s : PortState) → k < length row → (get_or (map emu_state row) k s).fuse ≡ fuse
-  fuses = row-each y.geometry driven.has.end.ports count (λ s. s.fuse ≡ fuse) bound
+  fuses = row-each y.geometry driven.end count (λ s. s.fuse ≡ fuse) bound
 
   pub own-seats : All (λ s. fuse_of s ≡ fuse) seats
-  own-seats = seats-own o.pick row d.images.items seats driven.has.cut fuse fuses
+  own-seats = seats-own o.pick row images seats driven.cut fuse fuses
 
   pub all-seats : length seats ≡ queues_of y.geometry + 1
-  all-seats = seats-long o.pick row d.images.items seats driven.has.cut ∙ row-long y.geometry driven.has.end.ports count
+  all-seats = seats-long o.pick row images seats driven.cut ∙ row-long y.geometry driven.end count
 
   -- a port that the row contains has the fuse of the drive
   pub own-fuse : (p : EmuPort) → Contains row p → (emu_state p).fuse ≡ fuse
@@ -71,7 +70,7 @@ module _ (fuse : FuseName) (y : DriveImage) (drive : IsDrive y) (scripts : List 
   -- where a port refused an event for its power, a seat drew a ticket at or above the limit
   pub off-seat : (l : ℕ) (p : EmuPort) → fuse.limit ≡ Some l → Contains row p → Contains (emu_faults p) PowerOff → (s : FuseSeat) × Contains seats s × (0 < above l (tickets_of s))
   off-seat l p limit own off =
-      let cut = driven.has.cut in
+      let cut = driven.cut in
       let has : Contains (map (λ (c : CutPort). c.port) cut.cuts) p = subst (λ (ps : List EmuPort). Contains ps p) cut.ports_are own in
       let within = has.1 in
       let long = length-map cut.cuts (λ (c : CutPort). c.port) in
@@ -92,7 +91,7 @@ module _ (fuse : FuseName) (y : DriveImage) (drive : IsDrive y) (scripts : List 
 
     pub sum-is : total (λ s. below l (tickets_of s)) seats ≡ events_on row
     sum-is =
-        let cut = driven.has.cut in
+        let cut = driven.cut in
         let long : length row ≡ length cut.cuts = ap length cut.ports_are ∙ length-map cut.cuts (λ (c : CutPort). c.port) in
         ap (total (λ s. below l (tickets_of s))) cut.seats_are
         ∙ sum cut.cuts cut.each (λ k s low. subst (λ (ps : List EmuPort). (get_or (map emu_state ps) k s).fuse ≡ fuse) cut.ports_are (fuses k s (omega (arith, low, long))))

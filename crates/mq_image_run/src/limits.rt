@@ -1,50 +1,24 @@
 // What is tested before a run.
-ghost use Rattle.std.specs.Prelude.{IsTrue, MatchOption};
-ghost use Rattle.std.specs.List.{All};
+ghost use Rattle.std.specs.Prelude.{IfErr, IfOk, IsOkUnless, List, MatchOption, None, ℕ};
+ghost use Rattle.mq_blocks.specs.Descriptor.{Descriptor};
 ghost use Rattle.mq_image.specs.Drives.{IsDrive};
+ghost use Rattle.mq_image_ops.specs.Recovering.{IsRecoveryOf};
 ghost use Rattle.mq_image_run.specs.Limits.{AreWithin, IsFirstAbove};
-ghost use Rattle.mq_run.specs.Playing.{IsShort};
+ghost use Rattle.mq_image_run.specs.Refusals.{IsUnfit};
 
 use mq_blocks::TxNo;
 use mq_image::DriveImage;
-use mq_script::Script;
+use mq_image_ops::{RecoveredImage, recover_image};
+use mq_recover::ImageFault;
+use std::alloc::Global;
 
 /// A run begins with no number and no doorbell above this one, so that none of its own exceeds the limits
 /// of the journal.
 const RUN_LIMIT: u64 = 1 << 62;
 
-// Whether groups and requests of a script can be counted in 32 bits.
-fn is_countable(script: &Script) -> bool
-    ensures short { IsTrue result → IsShort script.now.groups }
-    ensures exact { IsShort script.now.groups → IsTrue result }
-{
-    if script.groups.len() > u32::MAX as usize {
-        return false;
-    }
-    for group in &script.groups {
-        if group.requests.len() > u32::MAX as usize {
-            return false;
-        }
-    }
-    true
-}
-
-/// Whether groups and requests of all scripts can be counted in 32 bits.
-pub fn are_countable(scripts: &[Script]) -> bool
-    ensures short { IsTrue result → All (λ s. IsShort s.groups) scripts.now }
-    ensures exact { All (λ s. IsShort s.groups) scripts.now → IsTrue result }
-{
-    for script in scripts {
-        if !is_countable(script) {
-            return false;
-        }
-    }
-    true
-}
-
-/// The base that a recovery found if it is above the limit of a run, else the doorbell of the first queue
-/// whose doorbell is.
-pub fn first_above(image: &DriveImage, base: TxNo) -> Option<u64>
+// The base that a recovery found if it is above the limit of a run, else the doorbell of the first queue
+// whose doorbell is.
+fn first_above(image: &DriveImage, base: TxNo) -> Option<u64>
     requires { IsDrive image.now }
     ensures { MatchOption result (AreWithin image.now base) (IsFirstAbove image.now base) }
 {
@@ -58,4 +32,21 @@ pub fn first_above(image: &DriveImage, base: TxNo) -> Option<u64>
         }
     }
     None
+}
+
+/// Recovers an image whole, and tests that its numbers are within the limits of a run.
+pub fn recover_within(
+    alloc: Global,
+    image: DriveImage,
+    pick: u64,
+) -> Result<RecoveredImage, ImageFault>
+    requires { IsDrive image }
+    ensures ok { IfOk result (λ r. IsRecoveryOf image None r × AreWithin image r.found.base) }
+    ensures refused { IfErr result (IsUnfit image) }
+{
+    let recovered = recover_image(alloc, image, None, pick)?;
+    match first_above(&recovered.image, recovered.found.base) {
+        Some(base) => Err(ImageFault::Limit { base }),
+        None => Ok(recovered),
+    }
 }

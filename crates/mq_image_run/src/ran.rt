@@ -1,20 +1,18 @@
-// What a run on an image leaves.
+// What is left of an image on which something was played.
 use mq_blocks::TxNo;
 use mq_image::DriveImage;
-use mq_report::{Last, Line, Told};
 
-/// What a run leaves of an image, and what it reports.
+/// What is left of an image on which something was played, and what is reported of it.
 #[derive(Drop)]
-pub struct ImageRun {
-    /// What a cut of the power left of the drive, once all sessions had ended.
+pub struct PlayedImage<T> {
+    /// What a cut of the power left of the drive, once all was played.
     pub image: DriveImage,
     /// The base that the recovery at the start found.
     pub base: TxNo,
-    /// The commits and the reads, in the order of a report.
-    pub entries: Vec<Line>,
-    /// The answer to each group, by session and group.
-    pub answers: Vec<Told>,
-    pub last: Last,
+    /// What was played.
+    pub played: T,
     /// Whether the command that had to fail was executed, and so has failed.
     pub failed: bool,
+    /// The number of events that happened if the power has a limit, else 0.
+    pub events: u64,
 }

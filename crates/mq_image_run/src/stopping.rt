@@ -1,54 +1,55 @@
-// The drive on which scripts are run, with its fuse.
-ghost use Rattle.std.specs.Prelude.{◌≡◌, ◌+◌, ◌≤◌, ◌^◌, ℕ, IfErr, IfOk, None, length};
-ghost use Rattle.std.specs.List.{All};
+// A drive on which something is played, with its fuse.
+ghost use Rattle.std.specs.Prelude.{◌≡◌, ◌+◌, ◌≤◌, ◌^◌, Err, IfErr, IfOk, None, Ok};
 ghost use Rattle.mq_blocks.specs.Geometry.{queues_of};
 ghost use Rattle.mq_drive.specs.Seats.{name_of, ports_of};
 ghost use Rattle.mq_image.specs.File.{DriveImage as Image};
-ghost use Rattle.mq_image_run.specs.Drives.{HasStopped, IsNotDriven};
 ghost use Rattle.mq_image_ops.specs.Recovering.{IsRecoveryOf};
 ghost use Rattle.mq_image_ops.specs.Starts.{AreFreshSeats};
-ghost use Rattle.mq_run.specs.Playing.{IsShort};
+ghost use Rattle.mq_image_run.specs.Drives.{AreKept, HasStopped, IsReady, IsUndriven};
 
-use crate::driving::{Driven, run_drive};
-use crate::options::RunOptions;
-use mq_calls::Gate;
-use mq_drive::{Fuse, FuseSeat};
-use mq_image_ops::{RecoveredImage, StandingRefusal};
-use mq_script::Script;
+use crate::driving::{Driven, play_on_drive};
+use crate::options::DriveOptions;
+use crate::unplayed::Unplayed;
+use mq_drive::{EmuPort, Fuse, FuseSeat, Ports};
+use mq_image_ops::RecoveredImage;
 use std::alloc::Global;
-use std::sync::Wait;
-use std::thread::Threads;
 
-/// The result of scripts that were run on a drive, and the number of events that happened.
+/// What was played on a drive, and the number of events that happened.
 #[derive(Drop)]
-pub struct Stopped {
-    pub driven: Driven,
+pub struct Stopped<T> {
+    pub driven: Driven<T>,
     /// The number of events that happened if the fuse has a limit, else 0.
     pub events: u64,
 }
 
-/// Runs scripts on the drive that starts from a recovered image, with the power of a fuse, cuts its power
-/// at the end, and closes the fuse.
-pub fn run_to_stop<R: Threads + Wait + Sync, G: Gate + Sync>(
-    rt: &R,
+/// Plays on the drive that starts from a recovered image, with the power of a fuse, cuts its power at the end,
+/// and closes the fuse.
+pub fn play_to_stop<
+    T: Drop,
+    E,
+    F: for<'f> FnOnce(Ports<EmuPort<'f>>) -> Result<(T, Ports<EmuPort<'f>>), E>,
+>(
     alloc: Global,
     fuse: Fuse,
     seats: Vec<FuseSeat>,
     recovered: RecoveredImage,
-    scripts: &[Script],
-    options: RunOptions,
-    gate: &G,
-) -> Result<Stopped, StandingRefusal>
+    options: DriveOptions,
+    play: F,
+) -> Result<Stopped<T>, Unplayed<E>>
     requires recovery { (x : Image) × IsRecoveryOf x None recovered }
     requires base { recovered.found.base ≤ 2 ^ 62 }
     requires ports { ports_of fuse ≡ queues_of recovered.image.geometry + 1 }
     requires seats { AreFreshSeats (name_of fuse) (queues_of recovered.image.geometry + 1) seats.items }
-    requires scripts { (1 ≤ length scripts.now) × (length scripts.now ≤ queues_of recovered.image.geometry) }
-    requires short { All (λ s. IsShort s.groups) scripts.now }
-    ensures ok { IfOk result (HasStopped (name_of fuse) recovered.image scripts.now options) }
-    ensures refused { IfErr result (IsNotDriven (name_of fuse) options.fail recovered.image) }
+    requires may { (ports : _) → IsReady recovered.image.geometry ports → F.pre play ports }
+    requires keeps { (ports : _) (r : _) → F.post play ports (Ok r)
+        → AreKept recovered.image.geometry ports r.1 }
+    ensures ok { IfOk result (λ s. HasStopped (λ ports t end. F.post play ports (Ok (t, end)))
+        (name_of fuse) recovered.image options s.driven.played s.driven.failed s.driven.images.items
+        s.events) }
+    ensures refused { IfErr result (IsUndriven (λ ports e. F.post play ports (Err e)) (name_of fuse)
+        options.fail recovered.image) }
 {
-    let (driven, seats) = run_drive(rt, alloc, &fuse, seats, recovered, scripts, options, gate)?;
+    let (driven, seats) = play_on_drive(alloc, &fuse, seats, recovered, options, play)?;
     let events = fuse.close(seats);
     Ok(Stopped { driven, events })
 }

@@ -78,7 +78,6 @@ module _ {P E : Type 0} {G : Ghosts P} (state : P → PortState) (faults : P →
       let kept = s.kept in
       let was = h.reading in
       let before = was.done in
-      let least = s.low_is in
       let next : suc q ≡ q + 1 = omega arith in
       record {
         is = along v u w w.hand h.is (changed_both u w _ _ p.is);

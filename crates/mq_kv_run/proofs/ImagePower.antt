@@ -25,17 +25,18 @@ use Rattle.mq_kv_entries.specs.Calls.{store_calls}
 use Rattle.mq_kv_entries.specs.Group.{store_group}
 use Rattle.mq_kv_entries.specs.declared.entry.KvEntry.{KvEntry}
 use Rattle.mq_kv_entries.proofs.Members.{cons-cases, cons-here, cons-there, none-contained}
-use Rattle.mq_kv_run.specs.Drives.{HaveRefused, emu_ghosts}
+use Rattle.mq_image_run.specs.Drives.{emu_ghosts}
+use Rattle.mq_image_run.specs.Limits.{AreWithin}
+use Rattle.mq_image_run.proofs.Powered.{none-behind, unfailed}
+use Rattle.mq_kv_run.specs.Drives.{HaveRefused, with_told}
 use Rattle.mq_kv_run.specs.Endings.{finishes}
-use Rattle.mq_kv_run.specs.Limits.{AreWithin, HoldsStore}
+use Rattle.mq_kv_run.specs.Limits.{HoldsStore}
 use Rattle.mq_kv_run.specs.Played.{ArePlayed, EndsBy, HasRunStore, IsPlayed, cut_off, done, is_off, large, next, refused, whole}
 use Rattle.mq_kv_run.specs.Promise.{HasGoneOff, IsEndOf}
 use Rattle.mq_kv_run.specs.Runs.{IsLast, IsRunOf}
 use Rattle.mq_kv_run.specs.declared.options.KvOptions.{KvOptions}
 use Rattle.mq_kv_run.specs.declared.ran.KvRun.{KvRun}
 use Rattle.mq_kv_run.specs.declared.storing.StoreEnd.{StoreEnd}
-use Rattle.mq_kv_run.proofs.Powered.{behind-none}
-use Rattle.mq_kv_run.proofs.Seats.{own-fail}
 use Rattle.mq_kv_text.specs.declared.report.GroupReport.{GroupReport}
 use Rattle.mq_kv_text.specs.declared.report.GroupReport.TheVariants.{Off}
 use Rattle.mq_kv_text.specs.declared.report.LastLine.TheVariants.{Clean, Cut}
@@ -173,63 +174,47 @@ find-off (p ∷ row) fails = elim (off-or-none p (fails p (cons-here p row p ref
   ]
 ]
 
--- what holds of the faults of each port in the row holds of those of each queue, and of none
-each-queue : (P : List PortFault → Type 0) → P [] → (ps : List EmuPort) (root : EmuPort) → ((p : EmuPort) → Contains (ps ++ root ∷ []) p → P (emu_faults p)) → (q : ℕ) → P (slice_index_or (map emu_faults ps) q [])
-each-queue P empty [] root holds q = empty
-each-queue P empty (p ∷ ps) root holds zero = holds p (cons-here p (ps ++ root ∷ []) p refl)
-each-queue P empty (p ∷ ps) root holds (suc q) = each-queue P empty ps root (λ r own. holds r (cons-there p (ps ++ root ∷ []) r own)) q
-
-last-in : (ps : List EmuPort) (root : EmuPort) → Contains (ps ++ root ∷ []) root
-last-in [] root = cons-here root [] root refl
-last-in (p ∷ ps) root = cons-there p (ps ++ root ∷ []) root (last-in ps root)
-
 module _ (x : DriveImage) (groups : List (List KvOp)) (o : KvOptions) (r : KvRun) (run : IsRunOf x groups o r) where
   abbrev h : Geometry
-  h = run.recovered.image.geometry
+  h = x.geometry
 
   abbrev old : Ports EmuPort
-  old = run.stops.drives.ports
+  old = run.on.stops.drives.ports
 
   abbrev new : Ports EmuPort
-  new = run.stops.drives.has.end.ports
-
-  not-at : ((p : EmuPort) → Contains (row_of new) p → emu_faults p ≡ []) → (c : Cause) (t : Turn) → IsBehindAt h t (report_of c) (faults_on emu_faults old) (faults_on emu_faults new) → ⊥
-  not-at none c (Page b) behind = behind
-  not-at none c (Side q) behind =
-      behind-none h c _ (subst (IsBehind h (report_of c) _) (each-queue (λ faults. faults ≡ []) refl new.queues.items new.root none q) behind.1)
-  not-at none c Root behind = behind-none h c _ (subst (IsBehind h (report_of c) _) (none new.root (last-in new.queues.items new.root)) behind)
+  new = run.on.stops.drives.end
 
   have-refused : Contains r.report.groups Off → HaveRefused (row_of new)
   have-refused c =
-      let has = run.stops.drives.has in
-      let own : Contains has.end.reports.items Off = subst (λ (ts : List GroupReport). Contains ts Off) (run.reports ∙ ap (λ ts. ts.items) has.reports) c in
-      let behind = off-behind emu_ghosts emu_state emu_faults h old run.stops.drives.standing groups (finishes o.cut) has.end has.ran own in
-      elim (find-off (row_of new) (λ p own. ap (λ (f : Option ℕ). fails_by f (executed_of p)) (own-fail run.fuse run.recovered.image run.recovery.drive groups o run.stopped.driven run.stops.seats run.stops.drives p own))) [
+      let drives = run.on.stops.drives in
+      let own : Contains run.played.reports.items Off = subst (λ (ts : List GroupReport). Contains ts Off) run.reports c in
+      let behind = off-behind emu_ghosts emu_state emu_faults h old drives.plays.standing groups (finishes o.cut) (with_told new run.played) drives.plays.ran own in
+      elim (find-off (row_of new) (λ p own. unfailed (row_of new) (sym drives.any_failed ∙ drives.named) own.0 p own.1 own.2)) [
         | inl off ↦ off
-        | inr none ↦ absurd (not-at none behind.0 behind.1 behind.2)
+        | inr none ↦ absurd (none-behind h (faults_on emu_faults old) new none behind.0 behind.1 behind.2)
       ]
 
   gone-by : (cut : Option ℕ) → o.cut ≡ cut → HaveRefused (row_of new) → HasGoneOff x groups o r run
-  gone-by None e off = absurd (run.stops.powered (run.power ∙ e) off)
+  gone-by None e off = absurd (run.on.stops.powered off.0 (run.on.power ∙ e) off.1 off.2)
   gone-by (Some k) e off =
-      let all = run.stops.off k (run.power ∙ e) off in
-      let told : r.report.last ≡ Cut run.stopped.events = subst (λ (c : Option ℕ). IsLast c run.stopped.events run.stopped.driven.finished r.report.last) e run.last in
+      let all = run.on.stops.off k off.0 (run.on.power ∙ e) off.1 off.2 in
+      let told : r.report.last ≡ Cut run.events = subst (λ (c : Option ℕ). IsLast c run.events run.played.finished r.report.last) e run.last in
       record { k = k; asked = e; happened = told ∙ ap Cut all; refused = off }
 
   -- a group was cut off
   pub gone-off : Contains r.report.groups Off → HasGoneOff x groups o r run
   gone-off c = gone-by o.cut refl (have-refused c)
 
-  last-none : (finished : Option (Result ℕ CheckpointRefusal)) → IsLast None run.stopped.events finished r.report.last → (n : ℕ) × (r.report.last ≡ Clean n)
+  last-none : (finished : Option (Result ℕ CheckpointRefusal)) → IsLast None run.events finished r.report.last → (n : ℕ) × (r.report.last ≡ Clean n)
   last-none (Some (Ok n)) is = (n, is)
   last-none (Some (Err why)) is = absurd is
   last-none None is = absurd is
 
   end-by : (cut : Option ℕ) → o.cut ≡ cut → IsEndOf x groups o r run cut
-  end-by None e = last-none run.stopped.driven.finished (subst (λ (c : Option ℕ). IsLast c run.stopped.events run.stopped.driven.finished r.report.last) e run.last)
+  end-by None e = last-none run.played.finished (subst (λ (c : Option ℕ). IsLast c run.events run.played.finished r.report.last) e run.last)
   end-by (Some k) e =
-      let all = run.stops.happened k (run.power ∙ e) in
-      let told : r.report.last ≡ Cut run.stopped.events = subst (λ (c : Option ℕ). IsLast c run.stopped.events run.stopped.driven.finished r.report.last) e run.last in
+      let all = run.on.stops.happened k (run.on.power ∙ e) in
+      let told : r.report.last ≡ Cut run.events = subst (λ (c : Option ℕ). IsLast c run.events run.played.finished r.report.last) e run.last in
       (told ∙ ap Cut all.0, subst (λ (n : ℕ). n ≤ k) all.0 all.1)
 
   -- how the run ends
@@ -237,9 +222,9 @@ module _ (x : DriveImage) (groups : List (List KvOp)) (o : KvOptions) (r : KvRun
   ends = end-by o.cut refl
 
   -- a store stands on the image
-  pub holds : HoldsStore x run.recovery.ds run.recovery.top
+  pub holds : HoldsStore x run.on.recovery.ds run.on.recovery.top
   holds = record {
-    read = run.recovery.plan.read;
-    within = subst (λ (n : ℕ). AreWithin x n) run.recovery.base run.within;
+    read = run.on.recovery.plan.read;
+    within = subst (λ (n : ℕ). AreWithin x n) run.on.recovery.base run.on.within;
     formed = run.formed;
   }

@@ -6,7 +6,7 @@ use Rattle.mq_drive.specs.Emu.{emu_faults, emu_state}
 use Rattle.mq_image.specs.File.{DriveImage}
 use Rattle.mq_kv_buckets.specs.declared.operation.KvOp.{KvOp}
 use Rattle.mq_kv_entries.proofs.Members.{cons-here, cons-there}
-use Rattle.mq_kv_run.specs.Images.{LeavesImage, desk_of, seat_of, shape_at}
+use Rattle.mq_kv_run.specs.Images.{LeavesImage, desk_of, seat_of}
 use Rattle.mq_kv_run.specs.Trails.{FollowsTold, IsNewest}
 use Rattle.mq_kv_run.proofs.ImagePower.{ends, gone-off, holds}
 use Rattle.mq_kv_run.proofs.ImageViews.{leaves}
@@ -30,35 +30,28 @@ newest-drawn : (g : Geometry) (last newest : Point) (off : Option (List KvOp)) �
 newest-drawn g last newest off same = subst (λ (p : Point). IsReached g last off p) (sym same) (without off)
 
 module _ (x : DriveImage) (groups : List (List KvOp)) (o : KvOptions) (r : KvRun) (run : IsRunOf x groups o r) where
-  abbrev h : Geometry
-  h = shape_at x groups o r run
-
   abbrev first : Point
-  first = first_point x run.recovery.ds run.recovery.top
+  first = first_point x run.on.recovery.ds run.on.recovery.top
 
-  same : h ≡ x.geometry
-  same = run.recovery.geometry
+  drawn-by : (last newest : Point) (off : Option (List KvOp)) → IsNewest emu_state emu_faults x.geometry (desk_of x groups o r run) last off newest → IsReached x.geometry last off newest
+  drawn-by last newest off (inl is) = newest-drawn x.geometry last newest off is.0
+  drawn-by last newest off (inr c) = subst (λ (z : Option (List KvOp)). IsReached x.geometry last z newest) (sym c.off_is) (with_cut c.ops newest c.commit)
 
-  drawn-by : (last newest : Point) (off : Option (List KvOp)) → IsNewest emu_state emu_faults h (desk_of x groups o r run) last off newest → IsReached h last off newest
-  drawn-by last newest off (inl is) = newest-drawn h last newest off is.0
-  drawn-by last newest off (inr c) = subst (λ (z : Option (List KvOp)). IsReached h last z newest) (sym c.off_is) (with_cut c.ops newest c.commit)
-
-  pub keeps-promise : (off : Option (List KvOp)) (last newest : Point) → AreTold h first groups r.report.groups off last → FollowsTold emu_state emu_faults h (desk_of x groups o r run) (seat_of x groups o r run) last off newest → KeepsPromise x groups o r
+  pub keeps-promise : (off : Option (List KvOp)) (last newest : Point) → AreTold x.geometry first groups r.report.groups off last → FollowsTold emu_state emu_faults x.geometry (desk_of x groups o r run) (seat_of x groups o r run) last off newest → KeepsPromise x groups o r
   keeps-promise off last newest told follows =
-      let told_there : AreTold x.geometry first groups r.report.groups off last = subst (λ (z : Geometry). AreTold z first groups r.report.groups off last) same told in
-      let image : LeavesImage x r last off newest = leaves x groups o r run last newest off follows (λ some. let gone = gone-off x groups o r run (told-off h first last groups r.report.groups off told some) in (gone.k, gone.asked)) in
+      let image : LeavesImage x r last off newest = leaves x groups o r run last newest off follows (λ some. let gone = gone-off x groups o r run (told-off x.geometry first last groups r.report.groups off told some) in (gone.k, gone.asked)) in
       record {
-        ds = run.recovery.ds;
-        top = run.recovery.top;
+        ds = run.on.recovery.ds;
+        top = run.on.recovery.top;
         holds = holds x groups o r run;
         off = off;
         last = last;
-        told = told_there;
-        store = (groups-leave x.geometry first last groups r.report.groups off told_there run.formed).1;
-        power = λ again some. gone-off x groups o r again (told-off h first last groups r.report.groups off told some);
+        told = told;
+        store = (groups-leave x.geometry first last groups r.report.groups off told run.formed).1;
+        power = λ again some. gone-off x groups o r again (told-off x.geometry first last groups r.report.groups off told some);
         end = λ again. ends x groups o r again;
         newest = newest;
-        drawn = subst (λ (z : Geometry). IsReached z last off newest) same (drawn-by last newest off follows.newest_is);
+        drawn = drawn-by last newest off follows.newest_is;
         reached = image.reached;
         at = image.at;
         cut = image.cut;

@@ -2,10 +2,7 @@ pub mod Backed
 pub mod Kept
 pub mod Opened
 pub mod Played
-pub mod Powered
 pub mod Left
-pub mod Refusals
-pub mod Seats
 pub mod Stores
 pub mod ImageClean
 pub mod ImageCuts

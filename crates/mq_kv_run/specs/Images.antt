@@ -1,7 +1,6 @@
 -- What a run of groups leaves of its image.
 use Rattle.std.specs.Prelude.{◌≡◌, ◌<◌, ℕ, ◌+◌, List, Option, None}
 use Rattle.mq_blocks.specs.Geometry.{queues_of}
-use Rattle.mq_blocks.specs.declared.geometry.Geometry.{Geometry}
 use Rattle.mq_drive.specs.declared.emu.EmuPort.{EmuPort}
 use Rattle.mq_image.specs.Drives.{IsRead}
 use Rattle.mq_image.specs.Faults.{HasFault}
@@ -10,7 +9,7 @@ use Rattle.mq_image_ops.specs.Views.{view_of}
 use Rattle.mq_journal.specs.Numbers.{Seat, Shared}
 use Rattle.mq_kv_buckets.specs.declared.operation.KvOp.{KvOp}
 use Rattle.mq_kv_entries.specs.declared.entry.KvEntry.{KvEntry}
-use Rattle.mq_kv_run.specs.Drives.{emu_ghosts}
+use Rattle.mq_image_run.specs.Drives.{emu_ghosts}
 use Rattle.mq_kv_run.specs.Groups.{IsReached, Point}
 use Rattle.mq_kv_run.specs.Promise.{IsCleanAt, IsCutAt}
 use Rattle.mq_kv_run.specs.Recovering.{HoldsHome, LeadsTo}
@@ -20,15 +19,12 @@ use Rattle.mq_kv_run.specs.declared.ran.KvRun.{KvRun}
 use Rattle.mq_kv_text.specs.declared.report.LastLine.TheVariants.{Clean}
 
 module _ (x : DriveImage) (groups : List (List KvOp)) (o : KvOptions) (r : KvRun) (run : IsRunOf x groups o r) where
-  -- the geometry of the drive that ran, what was known on its desk at the end, and its session there
-  abbrev pub shape_at : Geometry
-  shape_at = run.recovered.image.geometry
-
+  -- what was known on the desk at the end, and its session there
   abbrev pub desk_of : Shared EmuPort KvEntry emu_ghosts
-  desk_of = run.stops.drives.has.ran.run.closed.end.known
+  desk_of = run.on.stops.drives.plays.ran.run.closed.end.known
 
   abbrev pub seat_of : Seat EmuPort KvEntry emu_ghosts
-  seat_of = run.stops.drives.has.ran.run.last
+  seat_of = run.on.stops.drives.plays.ran.run.last
 
 -- What a run leaves of its image, with the points behind the groups that are not cut off, and behind all that drew.
 pub record LeavesImage (x : DriveImage) (r : KvRun) (last : Point) (off : Option (List KvOp))

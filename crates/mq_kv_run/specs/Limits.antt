@@ -1,38 +1,16 @@
 -- From which image a run begins.
-use Rattle.std.specs.Prelude.{◌≡◌, ◌⊎◌, ◌<◌, ◌≤◌, ◌^◌, ℕ, List, Some}
+use Rattle.std.specs.Prelude.{◌<◌, ℕ, List, Some}
 use Rattle.mq_blocks.specs.Blocks.{content}
 use Rattle.mq_blocks.specs.Descriptor.{Descriptor}
-use Rattle.mq_blocks.specs.Geometry.{meta_of, queues_of}
+use Rattle.mq_blocks.specs.Geometry.{meta_of}
 use Rattle.mq_blocks.specs.Journal.{stands}
 use Rattle.mq_blocks.specs.Machine.{Map}
 use Rattle.mq_image.specs.File.{DriveImage}
 use Rattle.mq_image_ops.specs.Standing.{Reads}
 use Rattle.mq_image_ops.specs.Views.{view_of}
+use Rattle.mq_image_run.specs.Limits.{AreWithin}
 use Rattle.mq_kv_buckets.specs.Buckets.{IsFirstBad, IsFormed}
 use Rattle.mq_kv_buckets.specs.Store.{AreBuckets}
-
--- ---- numbers
-
-abbrev pub run_limit : ℕ
-run_limit = 2 ^ 62
-
--- neither the base nor the doorbell of one of the first queues is above the limit
-pub record AreBelow (queues : ℕ) (x : DriveImage) (base : ℕ) : Type 0 where
-  pub base_low : base ≤ run_limit
-  pub doorbells : (q : ℕ) → q < queues → (view_of x).doorbell q ≤ run_limit
-
--- the same of all queues
-abbrev pub AreWithin : DriveImage → (base : ℕ) → Type 0
-AreWithin x base = AreBelow (queues_of x.geometry) x base
-
--- The number is above the limit: it is the base, or else the doorbell of the first such queue.
-abbrev pub IsFirstAbove : DriveImage → (base : ℕ) → ℕ → Type 0
-IsFirstAbove x base n =
-    (run_limit < n)
-    × ((n ≡ base)
-    ⊎ ((q : ℕ) × (q < queues_of x.geometry) × AreBelow q x base × (n ≡ (view_of x).doorbell q)))
-
--- ---- buckets
 
 -- the home blocks that stand by these descriptors
 abbrev pub standing_map : DriveImage → List Descriptor → Map

@@ -14,7 +14,8 @@ use Rattle.mq_kv_buckets.specs.declared.operation.KvOp.{KvOp}
 use Rattle.mq_kv_run.specs.Groups.{AreTold, IsReached, Point}
 use Rattle.mq_kv_run.specs.Limits.{HoldsStore, standing_map}
 use Rattle.mq_kv_run.specs.Recovering.{HoldsHome, LeadsTo}
-use Rattle.mq_kv_run.specs.Drives.{HaveRefused, events_on}
+use Rattle.mq_image_run.specs.Drives.{events_on}
+use Rattle.mq_kv_run.specs.Drives.{HaveRefused}
 use Rattle.mq_kv_run.specs.Runs.{IsRunOf}
 use Rattle.mq_kv_run.specs.Stores.{LeaveStore, store_at}
 use Rattle.mq_kv_run.specs.declared.options.KvOptions.{KvOptions}
@@ -51,15 +52,15 @@ pub record HasGoneOff (x : DriveImage) (groups : List (List KvOp)) (o : KvOption
   pub k : ℕ
   pub asked : o.cut ≡ Some k
   pub happened : r.report.last ≡ Cut k
-  pub refused : HaveRefused (row_of run.stops.drives.has.end.ports)
+  pub refused : HaveRefused (row_of run.on.stops.drives.end)
 
 -- The last line of a run whose power was to go off after k events gives how many happened on the ports, at most k.
 -- Else it gives a number.
 abbrev pub IsEndOf : (x : DriveImage) (groups : List (List KvOp)) (o : KvOptions) (r : KvRun)
     → IsRunOf x groups o r → (cut : Option ℕ) → Type 0
 IsEndOf x groups o r run (Some k) =
-    (r.report.last ≡ Cut (events_on (row_of run.stops.drives.has.end.ports)))
-    × (events_on (row_of run.stops.drives.has.end.ports) ≤ k)
+    (r.report.last ≡ Cut (events_on (row_of run.on.stops.drives.end)))
+    × (events_on (row_of run.on.stops.drives.end) ≤ k)
 IsEndOf x groups o r run None = (n : ℕ) × (r.report.last ≡ Clean n)
 
 -- A store stands on the old image. What is reported of the groups is what they come to on it, one after another,

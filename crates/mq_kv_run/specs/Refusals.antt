@@ -8,7 +8,10 @@ use Rattle.mq_kv.specs.declared.refusal.KvOpenRefusal.{KvOpenRefusal}
 use Rattle.mq_kv.specs.declared.refusal.KvOpenRefusal.TheVariants as opening
 use Rattle.mq_recover.specs.declared.refusal.ImageFault.{ImageFault}
 use Rattle.mq_recover.specs.declared.refusal.ImageFault.TheVariants as fault
-use Rattle.mq_kv_run.specs.Limits.{AreWithin, IsBadBucket, IsFirstAbove, standing_map}
+use Rattle.mq_image_run.specs.Limits.{AreWithin, IsFirstAbove}
+use Rattle.mq_image_run.specs.declared.unplayed.Unplayed.{Unplayed}
+use Rattle.mq_image_run.specs.declared.unplayed.Unplayed.TheVariants as unplayed
+use Rattle.mq_kv_run.specs.Limits.{IsBadBucket, standing_map}
 use Rattle.mq_kv_run.specs.declared.refusal.KvRunRefusal.{KvRunRefusal}
 use Rattle.mq_kv_run.specs.declared.refusal.KvRunRefusal.TheVariants.{Bucket, Image, OutOfMemory}
 
@@ -31,3 +34,8 @@ IsUnopened opening.OutOfMemory e = e ≡ OutOfMemory
 abbrev pub refusal_for : ImageFault → KvRunRefusal
 refusal_for fault.OutOfMemory = OutOfMemory
 refusal_for e = Image e
+
+-- why no groups are played on an image
+abbrev pub refusal_from : Unplayed KvRunRefusal → KvRunRefusal
+refusal_from (unplayed.Image e) = refusal_for e
+refusal_from (unplayed.Refused e) = e

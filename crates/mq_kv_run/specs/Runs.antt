@@ -1,21 +1,19 @@
 -- How the drive of an image ran.
 use Rattle.std.specs.Prelude.{◌≡◌, ℕ, Bool, true, false, List, Option, None, Some, Result, Ok, Err}
-use Rattle.std.specs.List.{All}
-use Rattle.mq_blocks.specs.Drive.{FuseName}
 use Rattle.mq_blocks.specs.Geometry.{meta_of}
 use Rattle.mq_journal.specs.declared.refusal.CheckpointRefusal.{CheckpointRefusal}
 use Rattle.mq_journal.specs.declared.refusal.CheckpointRefusal.TheVariants as checkpoint
-use Rattle.mq_image.specs.Drives.{HasWidths, IsDrive}
 use Rattle.mq_image.specs.File.{DriveImage}
-use Rattle.mq_image_ops.specs.Recovering.{IsRecoveryOf}
-use Rattle.mq_image_ops.specs.declared.recovery.RecoveredImage.{RecoveredImage}
 use Rattle.mq_kv_buckets.specs.declared.operation.KvOp.{KvOp}
 use Rattle.mq_kv_buckets.specs.Store.{AreBuckets}
-use Rattle.mq_kv_run.specs.Drives.{HasStopped}
-use Rattle.mq_kv_run.specs.Limits.{AreWithin, standing_map}
+use Rattle.mq_image_run.specs.Runs.{IsPlayedOn}
+use Rattle.mq_image_run.specs.declared.ran.PlayedImage.{PlayedImage}
+use Rattle.mq_kv_run.specs.Drives.{PlaysGroups}
+use Rattle.mq_kv_run.specs.Endings.{drive_options, finishes}
+use Rattle.mq_kv_run.specs.Limits.{standing_map}
+use Rattle.mq_kv_run.specs.declared.driving.Played.{Played}
 use Rattle.mq_kv_run.specs.declared.options.KvOptions.{KvOptions}
 use Rattle.mq_kv_run.specs.declared.ran.KvRun.{KvRun}
-use Rattle.mq_kv_run.specs.declared.stopping.Stopped.{Stopped}
 use Rattle.mq_kv_text.specs.declared.report.LastLine.{LastLine}
 use Rattle.mq_kv_text.specs.declared.report.LastLine.TheVariants.{Clean, Cut}
 use Rattle.mq_queue_side.specs.declared.answers.Cause.{Cause}
@@ -43,21 +41,21 @@ IsLast None events None last = ⊥
 
 -- ---- the whole
 
--- The image was recovered, whole, and is within the limits of a run; a store stands on it. The groups were run on
--- the drive that started from what this left, and the image is what the cut of its power at the end left; it fits
--- its file.
+-- what was played on the image, with the base that the recovery found, whether a command failed, and the number of
+-- events that were counted
+abbrev pub left_of : KvRun → (base : ℕ) → Played → (failed : Bool) → (events : ℕ) → PlayedImage Played
+left_of r base played failed events =
+    record { image = r.image; base = base; played = played; failed = failed; events = events }
+
+-- The groups were run on the drive that started from the image, over a store that stands there, and the image is what
+-- was left.
 pub record IsRunOf (x : DriveImage) (groups : List (List KvOp)) (o : KvOptions) (r : KvRun) : Type 0 where
-  pub recovered : RecoveredImage
-  pub recovery : IsRecoveryOf x None recovered
-  pub within : AreWithin x recovered.found.base
-  pub formed : AreBuckets (meta_of x.geometry) (standing_map x recovery.ds)
-  pub fuse : FuseName
-  pub power : fuse.limit ≡ o.cut
-  pub stopped : Stopped
-  pub stops : HasStopped fuse recovered.image groups o stopped
-  pub reports : r.report.groups ≡ stopped.driven.reports.items
-  pub last : IsLast o.cut stopped.events stopped.driven.finished r.report.last
-  pub geometry : r.image.geometry ≡ x.geometry
-  pub ports : r.image.ports ≡ stopped.driven.images.items
-  pub drive : IsDrive r.image
-  pub widths : All HasWidths r.image.ports
+  pub base : ℕ
+  pub played : Played
+  pub failed : Bool
+  pub events : ℕ
+  pub on : IsPlayedOn (PlaysGroups x.geometry groups (finishes o.cut)) x (drive_options o)
+      (left_of r base played failed events)
+  pub formed : AreBuckets (meta_of x.geometry) (standing_map x on.recovery.ds)
+  pub reports : r.report.groups ≡ played.reports.items
+  pub last : IsLast o.cut events played.finished r.report.last

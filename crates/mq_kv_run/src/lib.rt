@@ -5,14 +5,12 @@
 mod driving;
 mod ending;
 mod laws;
-mod limits;
 mod options;
 mod playing;
 mod promise_laws;
 mod ran;
 mod refusal;
 mod running;
-mod stopping;
 mod storing;
 
 pub use laws::reported_groups_run_on_the_store;

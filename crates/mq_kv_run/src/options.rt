@@ -1,6 +1,8 @@
 // What a run is asked for.
 ghost use Rattle.std.specs.Prelude.{◌≡◌};
-ghost use Rattle.mq_kv_run.specs.Endings.{finishes as finishes_at};
+ghost use Rattle.mq_kv_run.specs.Endings.{drive_options, finishes as finishes_at};
+
+use mq_image_run::DriveOptions;
 
 /// The options of a run, beside its image and its groups.
 #[derive(Clone, Copy)]
@@ -20,6 +22,16 @@ impl KvOptions {
         match self.cut {
             Some(_) => false,
             None => true,
+        }
+    }
+    /// What is asked for of the drive. No command of it has to fail.
+    pub fn drive(self) -> DriveOptions
+        ensures { result ≡ drive_options self }
+    {
+        DriveOptions {
+            limit: self.cut,
+            pick: self.pick,
+            fail: None,
         }
     }
 }

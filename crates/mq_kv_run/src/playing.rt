@@ -32,11 +32,11 @@ fn play_group<P: Port + Drop, R: Wait>(
     group: &KvGroup,
 ) -> Result<GroupReport, OutOfMemory>
     requires desk { AtDesk store.now.desk session.old.chair }
-    requires ready { IsReady store_group store.now.geometry session.old.queue session.old.calls session.old.held
-        (view session.old.chair) }
+    requires ready { IsReady store_group store.now.geometry session.old.queue session.old.calls
+        session.old.held (view session.old.chair) }
     ensures desk { AtDesk store.now.desk session.new.chair }
-    ensures ready { IsReady store_group store.now.geometry session.new.queue session.new.calls session.new.held
-        (view session.new.chair) }
+    ensures ready { IsReady store_group store.now.geometry session.new.queue session.new.calls
+        session.new.held (view session.new.chair) }
     ensures queue { session.new.queue ≡ session.old.queue }
     ensures played { IfOk result (IsPlayed P.state P.faults store.now.geometry session.old.queue group.now
         (view session.old.chair) (view session.new.chair)) }
@@ -63,13 +63,13 @@ pub fn play_groups<P: Port + Drop, R: Wait>(
     groups: &[KvGroup],
 ) -> Result<Vec<GroupReport>, OutOfMemory>
     requires desk { AtDesk store.now.desk session.old.chair }
-    requires ready { IsReady store_group store.now.geometry session.old.queue session.old.calls session.old.held
-        (view session.old.chair) }
+    requires ready { IsReady store_group store.now.geometry session.old.queue session.old.calls
+        session.old.held (view session.old.chair) }
     ensures desk { AtDesk store.now.desk session.new.chair }
-    ensures ready { IsReady store_group store.now.geometry session.new.queue session.new.calls session.new.held
-        (view session.new.chair) }
-    ensures played { IfOk result (λ v. ArePlayed P.state P.faults store.now.geometry session.old.queue groups.now v.items
-        (view session.old.chair) (view session.new.chair)) }
+    ensures ready { IsReady store_group store.now.geometry session.new.queue session.new.calls
+        session.new.held (view session.new.chair) }
+    ensures played { IfOk result (λ v. ArePlayed P.state P.faults store.now.geometry session.old.queue
+        groups.now v.items (view session.old.chair) (view session.new.chair)) }
 {
     let mut reports = Vec::with_capacity(alloc, groups.len())?;
     for group in groups {

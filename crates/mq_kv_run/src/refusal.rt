@@ -1,5 +1,6 @@
 // Why no groups are run on an image.
 use mq_blocks::{BlockNo, OutOfMemory};
+use mq_image_run::Unplayed;
 use mq_recover::ImageFault;
 
 /// Why no groups are run on an image.
@@ -33,6 +34,20 @@ impl From<ImageFault> for KvRunRefusal {
         match fault {
             ImageFault::OutOfMemory => KvRunRefusal::OutOfMemory,
             fault => KvRunRefusal::Image(fault),
+        }
+    }
+}
+
+impl From<Unplayed<KvRunRefusal>> for KvRunRefusal {
+    ghost use Rattle.std.specs.Prelude.{◌≡◌};
+    ghost use Rattle.mq_kv_run.specs.Refusals.{refusal_from};
+
+    ghost from_gives = { λ unplayed e. e ≡ refusal_from unplayed };
+
+    fn from(unplayed: Unplayed<KvRunRefusal>) -> Self {
+        match unplayed {
+            Unplayed::Image(fault) => KvRunRefusal::from(fault),
+            Unplayed::Refused(refusal) => refusal,
         }
     }
 }

@@ -52,12 +52,13 @@ fn finish_store<P: Port + Drop, R: Wait>(
     finish: bool,
 ) -> Option<Result<TxNo, CheckpointRefusal>>
     requires desk { AtDesk store.now.desk session.old.chair }
-    requires ready { IsReady store_group store.now.geometry session.old.queue session.old.calls session.old.held
-        (view session.old.chair) }
+    requires ready { IsReady store_group store.now.geometry session.old.queue session.old.calls
+        session.old.held (view session.old.chair) }
     ensures desk { AtDesk store.now.desk session.new.chair }
-    ensures ready { IsReady store_group store.now.geometry session.new.queue session.new.calls session.new.held
+    ensures ready { IsReady store_group store.now.geometry session.new.queue session.new.calls
+        session.new.held (view session.new.chair) }
+    ensures ended { EndsBy P.state P.faults finish result (view session.old.chair)
         (view session.new.chair) }
-    ensures ended { EndsBy P.state P.faults finish result (view session.old.chair) (view session.new.chair) }
 {
     if !finish {
         return None;
@@ -72,9 +73,11 @@ fn close_store<P: Port + Drop>(
     session: KvSession<P>,
 ) -> Result<Ended<P, KvEntry>, OutOfMemory>
     requires desk { AtDesk store.desk session.chair }
-    requires ready { IsReady store_group store.geometry session.queue session.calls session.held (view session.chair) }
+    requires ready { IsReady store_group store.geometry session.queue session.calls session.held
+        (view session.chair) }
     requires all { chairs_of store.desk ≡ 1 }
-    ensures { IfOk result (λ e. HasRun P.state P.faults store_group (start_of store.desk) (view session.chair ∷ []) e) }
+    ensures { IfOk result (λ e. HasRun P.state P.faults store_group (start_of store.desk)
+        (view session.chair ∷ []) e) }
 {
     let mut sessions = Vec::with_capacity(alloc, 1)?;
     sessions.push(session)?;
@@ -104,12 +107,15 @@ fn open_store<P: Port + Drop>(
     requires drive { MayOpen geometry (drive_of P.state ports) standing }
     requires base { standing.base ≤ 2 ^ 62 }
     ensures formed { IfOk result (λ _. AreFormed (meta_of geometry) standing.blocks.items) }
-    ensures desk { IfOk result (λ r. IsOpenedOver P.state P.faults geometry ports standing (start_of r.0.desk)) }
+    ensures desk { IfOk result (λ r. IsOpenedOver P.state P.faults geometry ports standing
+        (start_of r.0.desk)) }
     ensures chairs { IfOk result (λ r. chairs_of r.0.desk ≡ 1) }
     ensures geometry { IfOk result (λ r. r.0.geometry ≡ geometry) }
     ensures session { IfOk result (λ r. AtDesk r.0.desk r.1.chair
-        × IsNewSession geometry (start_of r.0.desk) 0 r.1.queue r.1.calls r.1.wanted.items r.1.held (view r.1.chair)) }
-    ensures refused { IfErr result (λ e. (why : _) × IsUnopened why e × IsNotOpened geometry standing.blocks.items why) }
+        × IsNewSession geometry (start_of r.0.desk) 0 r.1.queue r.1.calls r.1.wanted.items r.1.held
+        (view r.1.chair)) }
+    ensures refused { IfErr result (λ e. (why : _) × IsUnopened why e
+        × IsNotOpened geometry standing.blocks.items why) }
 {
     match Kv::open(alloc, geometry, ports, standing, 1) {
         Ok((store, mut sessions)) => match sessions.pop() {
@@ -130,10 +136,11 @@ fn play_store<P: Port + Drop, R: Wait>(
     finish: bool,
 ) -> Result<StoreEnd<P>, OutOfMemory>
     requires desk { AtDesk store.desk session.chair }
-    requires ready { IsReady store_group store.geometry session.queue session.calls session.held (view session.chair) }
+    requires ready { IsReady store_group store.geometry session.queue session.calls session.held
+        (view session.chair) }
     requires all { chairs_of store.desk ≡ 1 }
-    ensures { IfOk result (HasPlayedStore P.Port P.state P.faults store.geometry (start_of store.desk) session.queue
-        (view session.chair) groups.now finish) }
+    ensures { IfOk result (HasPlayedStore P.Port P.state P.faults store.geometry (start_of store.desk)
+        session.queue (view session.chair) groups.now finish) }
 {
     let reports = play_groups(rt, alloc, &store, &mut session, groups)?;
     let finished = finish_store(rt, alloc, &store, &mut session, finish);
@@ -159,7 +166,8 @@ pub fn run_store<P: Port + Drop, R: Wait>(
 ) -> Result<StoreEnd<P>, KvRunRefusal>
     requires drive { MayOpen geometry (drive_of P.state ports) standing }
     requires base { standing.base ≤ 2 ^ 62 }
-    ensures ok { IfOk result (HasRunStore P.Port P.state P.faults geometry ports standing groups.now finish) }
+    ensures ok { IfOk result (HasRunStore P.Port P.state P.faults geometry ports standing groups.now
+        finish) }
     ensures refused { IfErr result (λ e. (e ≡ KvRunRefusal.OutOfMemory)
         ⊎ ((why : _) × IsUnopened why e × IsNotOpened geometry standing.blocks.items why)) }
 {

@@ -19,12 +19,13 @@ use Rattle.mq_image_ops.proofs.Standing.{read-refused}
 use Rattle.mq_kv_buckets.specs.Buckets.{IsFormed, records_of}
 use Rattle.mq_kv_buckets.specs.declared.operation.KvOp.{KvOp}
 use Rattle.mq_kv_buckets.proofs.BucketsWrong.{never-bad}
-use Rattle.mq_kv_run.specs.Limits.{AreWithin, HoldsStore, IsBadBucket, IsFirstAbove, standing_map}
+use Rattle.mq_image_run.specs.Limits.{AreWithin, IsFirstAbove}
+use Rattle.mq_kv_run.specs.Limits.{HoldsStore, IsBadBucket, standing_map}
 use Rattle.mq_kv_run.specs.Runs.{IsRunOf}
 use Rattle.mq_kv_run.specs.declared.options.KvOptions.{KvOptions}
 use Rattle.mq_kv_run.specs.declared.ran.KvRun.{KvRun}
-use Rattle.mq_kv_run.proofs.Left.{run-holds}
-use Rattle.mq_kv_run.proofs.Refusals.{not-above, only-wanting}
+use Rattle.mq_image_run.proofs.Refusals.{not-above}
+use Rattle.mq_kv_run.proofs.Left.{only-wanting, run-holds}
 use Rattle.mq_kv_text.specs.Files.{IsFile, IsMisread}
 use Rattle.mq_kv_text.proofs.FilesOnce.{exact_of, only_of}
 use Rattle.mq_kv_tool.specs.Applies.{Applies, IsApplied, RefusesFile, RefusesRunning, applied, misread, no_file, no_image, no_run, not_loaded, not_run, unsaved}
@@ -125,13 +126,13 @@ module _ (o : KvOptions) (image file : List ℕ) (old new : FilesState) (result 
       three never = settled (IsUnlessFailed 3 result) 3 (λ u. u) refused-three (λ r run u. absurd (never r run))
 
       unreadable-status : (e : ImageFault) → RefusesDrive x e → (status : ℕ) (text : List ℕ) → Applies o image file old new status text → IsUnlessFailed status result → IsUnlessFailed 3 result
-      unreadable-status e refuses = three (λ r run. read-refused x run.recovery.ds run.recovery.top e run.recovery.plan.read refuses)
+      unreadable-status e refuses = three (λ r run. read-refused x run.on.recovery.ds run.on.recovery.top e run.on.recovery.plan.read refuses)
 
       limit-status : (ds : List Descriptor) (top n : ℕ) → Reads x ds top → IsFirstAbove x top n → (status : ℕ) (text : List ℕ) → Applies o image file old new status text → IsUnlessFailed status result → IsUnlessFailed 3 result
-      limit-status ds top n reads above = three (λ r run. not-above x n top (subst (AreWithin x) (one-prefix x run.recovery.ds ds run.recovery.top top run.recovery.plan.read reads).1 (run-holds x groups o r run).within) above)
+      limit-status ds top n reads above = three (λ r run. not-above x n top (subst (AreWithin x) (one-prefix x run.on.recovery.ds ds run.on.recovery.top top run.on.recovery.plan.read reads).1 (run-holds x groups o r run).within) above)
 
       bucket-status : (ds : List Descriptor) (top b offset : ℕ) → Reads x ds top → IsBadBucket (meta_of x.geometry) (standing_map x ds) b offset → (status : ℕ) (text : List ℕ) → Applies o image file old new status text → IsUnlessFailed status result → IsUnlessFailed 3 result
-      bucket-status ds top b offset reads bad = three (λ r run. formed-bad x run.recovery.ds ds run.recovery.top top b offset (run-holds x groups o r run) reads bad)
+      bucket-status ds top b offset reads bad = three (λ r run. formed-bad x run.on.recovery.ds ds run.on.recovery.top top b offset (run-holds x groups o r run) reads bad)
 
       run-status : (ds : List Descriptor) (top : ℕ) → HoldsStore x ds top → (status : ℕ) (text : List ℕ) → Applies o image file old new status text → IsUnlessFailed status result → IsUnlessFailed 0 result
       run-status ds top holds = settled (IsUnlessFailed 0 result) 0 (λ u. u) (refused-none ds top holds) (λ r run u. u)

@@ -320,7 +320,7 @@ module _ (held : Held) (files : FilesState) (is : files.contents ≡ Some held) 
     covers-running x have _ _ applies.RefusesRunning.wanting = inr (inr refl)
 
     covers-apply : (new : FilesState) (status : ℕ) (text : List ℕ) → Applies (kv_options options) image file files new status text → CoversApply status
-    covers-apply new _ _ (applied mid read r done save) = inl (runs done.x done.run.recovery.ds done.run.recovery.top (have-files (kv_options options) image file mid read r done) (run-holds done.x done.groups (kv_options options) r done.run))
+    covers-apply new _ _ (applied mid read r done save) = inl (runs done.x done.run.on.recovery.ds done.run.on.recovery.top (have-files (kv_options options) image file mid read r done) (run-holds done.x done.groups (kv_options options) r done.run))
     covers-apply new status text (no_image says) = covers-name new status text says
     covers-apply new status text (no_file bytes x mid load reads refuses) = covers-file bytes x mid new load reads status text refuses
     covers-apply new status text (no_run bytes x words groups mid load reads next spelled refuses) =

@@ -9,7 +9,8 @@ use Rattle.mq_image.specs.declared.fault.FileFault.{FileFault}
 use Rattle.mq_image_ops.specs.Standing.{Reads, RefusesDrive}
 use Rattle.mq_kv_buckets.specs.declared.operation.KvOp.{KvOp}
 use Rattle.mq_kv_cli.specs.Asked.{Asked, apply, help, make, version}
-use Rattle.mq_kv_run.specs.Limits.{AreWithin, HoldsStore, IsBadBucket, IsFirstAbove, standing_map}
+use Rattle.mq_image_run.specs.Limits.{AreWithin, IsFirstAbove}
+use Rattle.mq_kv_run.specs.Limits.{HoldsStore, IsBadBucket, standing_map}
 use Rattle.mq_kv_text.specs.Files.{IsFile, IsMisread}
 use Rattle.mq_outside.specs.Outside.{Held, Tells}
 use Rattle.mq_recover.specs.declared.refusal.ImageFault.{ImageFault}

@@ -80,7 +80,8 @@ fn run_to_file<R: Wait>(
         × IsRunOf image groups.now options r
         × (v.file.items ≡ image_bytes r.image)
         × (v.report.items ≡ report_text r.report)) }
-    ensures refused { IfErr result (λ answer. IfOk answer (λ a. RefusesRunning image a.status a.text.items)) }
+    ensures refused { IfErr result (λ answer. IfOk answer
+        (λ a. RefusesRunning image a.status a.text.items)) }
 {
     let ran = match run_groups(rt, alloc, image, groups, options) {
         Ok(ran) => ran,

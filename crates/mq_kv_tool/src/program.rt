@@ -106,8 +106,8 @@ pub fn kv<F: Files, K: Sink, R: Wait>(
     // At every status but 4 and 6 the text of that status was said whole.
     ensures said { result ≢ 4
         → result ≢ 6
-        → IsSaid (map string_bytes words.now) (F.state files.old) (F.state files.new) (K.state out.old) (K.state out.new)
-        result }
+        → IsSaid (map string_bytes words.now) (F.state files.old) (F.state files.new) (K.state out.old)
+        (K.state out.new) result }
     // What the files hold decides the status, 4 and 6 aside.
     ensures decided { (a : Asked) (status : ℕ)
         → asked_of (map string_bytes words.now) ≡ Some a
@@ -128,7 +128,8 @@ pub fn kv<F: Files, K: Sink, R: Wait>(
     ensures applied { (image file : List ℕ) (options : ApplyOptions)
         → asked_of (map string_bytes words.now) ≡ Some (asked_apply image file options)
         → result ≡ 0
-        → HasApplied image file options (F.state files.old) (F.state files.new) (K.state out.old) (K.state out.new) }
+        → HasApplied image file options (F.state files.old) (F.state files.new) (K.state out.old)
+        (K.state out.new) }
     // The words are no command.
     ensures usage { result ≡ 1
         → AreUnknown (map string_bytes words.now)
@@ -137,7 +138,8 @@ pub fn kv<F: Files, K: Sink, R: Wait>(
     ensures usage_where { AreUnknown (map string_bytes words.now) → IsUnlessFailed 1 result }
     // The words are those of `apply`, and the file holds bytes that are refused.
     ensures misread { result ≡ 2
-        → IsMisreadFile (map string_bytes words.now) (F.state files.old) (K.state out.old) (K.state out.new) }
+        → IsMisreadFile (map string_bytes words.now) (F.state files.old) (K.state out.old)
+        (K.state out.new) }
     // A file or the output failed, or a file was too long.
     ensures fault { result ≡ 4
         → Rose (F.state files.old).faults (F.state files.new).faults
@@ -148,12 +150,14 @@ pub fn kv<F: Files, K: Sink, R: Wait>(
         × ((K.state out.new).faults ≡ (K.state out.old).faults) }
     // What failed, what the names then hold, and what the output is.
     ensures fault_at { result ≡ 4
-        → IsFault (map string_bytes words.now) (F.state files.old) (F.state files.new) (K.state out.old) (K.state out.new) }
+        → IsFault (map string_bytes words.now) (F.state files.old) (F.state files.new) (K.state out.old)
+        (K.state out.new) }
     // Memory ran out: what the names then hold, and what the output is.
     ensures memory { result ≡ 6
-        → IsOutOfMemory (map string_bytes words.now) (F.state files.old) (F.state files.new) (K.state out.old)
-        (K.state out.new) }
-    ensures takes { result ≢ 4 → result ≢ 6 → TakesFor (map string_bytes words.now) (F.state files.old) (F.state files.new) }
+        → IsOutOfMemory (map string_bytes words.now) (F.state files.old) (F.state files.new)
+        (K.state out.old) (K.state out.new) }
+    ensures takes { result ≢ 4 → result ≢ 6 → TakesFor (map string_bytes words.now) (F.state files.old)
+        (F.state files.new) }
     // No name changes but the image that the words save, and none at the statuses 1, 2 and 3.
     ensures names { KeepsNames (map string_bytes words.now) (F.state files.old) (F.state files.new) }
     ensures contents { (result ≡ 1) ⊎ ((result ≡ 2) ⊎ (result ≡ 3))

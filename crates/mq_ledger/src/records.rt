@@ -1,5 +1,5 @@
 // The history of a machine, with what its events ask of it at hand.
-ghost use Rattle.std.specs.Prelude.{◌≡◌, ◌≤◌, ◌<◌, ◌+◌, ◌^◌, ℕ, List, [], IfOk, OnOk, OnErr, IsTrue, ◌↔◌, MatchOption, length, replicate, None, Some};
+ghost use Rattle.std.specs.Prelude.{◌≡◌, ◌≤◌, ◌<◌, ◌+◌, ◌^◌, ℕ, List, [], IfOk, OnOk, OnErr, IsTrue, ◌↔◌, MatchOption, length, vec_len, vec_capacity, replicate, None, Some};
 ghost use Rattle.mq_blocks.specs.Descriptor.{AreRising};
 ghost use Rattle.mq_blocks.specs.Geometry.{homes_of};
 ghost use Rattle.mq_blocks.specs.Journal.{number_limit};
@@ -97,6 +97,18 @@ fn row_after(before: Row, tx: &Tx) -> Row
         end: before.end + (copies + direct + blocks),
         next: before.next + (copies + blocks),
     }
+}
+
+/// Room for one more transaction and the count after it.
+fn reserve_one(history: &mut Vec<Tx>, ends: &mut Vec<u64>) -> Result<(), OutOfMemory>
+    ensures history { history.new.items ≡ history.old.items }
+    ensures ends { ends.new.items ≡ ends.old.items }
+    ensures room { OnOk result ((vec_len history.new < vec_capacity history.new)
+        × (vec_len ends.new < vec_capacity ends.new)) }
+{
+    history.reserve(1)?;
+    ends.reserve(1)?;
+    Ok(())
 }
 
 impl Ledger {
@@ -312,12 +324,11 @@ impl Ledger {
         ensures refused { OnErr result (self.new ≡ self.old) }
     {
         let row = row_after(self.row(tx.queue), &tx);
-        self.history.reserve(1)?;
-        self.ends.reserve(1)?;
+        reserve_one(&mut self.history, &mut self.ends)?;
         add_row(&mut self.queue_rows, tx.queue, row)?;
         mark(&mut self.newest, &tx);
-        self.ends.push(row.end)?;
-        self.history.push(tx)?;
+        self.ends.push_reserved(row.end);
+        self.history.push_reserved(tx);
         Ok(())
     }
 

@@ -10,7 +10,6 @@ pub mod Safe
 pub mod Runs
 mod Machines
 mod Tellings
-mod Running
 mod Starts
 pub mod RowLists
 pub mod Flags

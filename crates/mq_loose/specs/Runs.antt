@@ -1,30 +1,36 @@
 -- The loose machine: its events, where each is allowed, what each changes, and whole runs.
-use Rattle.std.specs.Prelude.{◌≡◌, ◌<◌, ℕ, zero, suc, true, List, [], ◌∷◌}
+use Rattle.std.specs.Prelude.{◌≡◌, ◌<◌, ℕ, true, List}
 use Rattle.mq_blocks.specs.Journal.{is_among}
 use Rattle.mq_ledger.specs.Items.{Entries}
 use Rattle.mq_ledger.specs.State.{State, from_at, port_at}
-use Rattle.mq_core.specs.Events.{us_of, draw, stage, flush, ring, complete, fail_command, store_head, acknowledge, write_home, home_done, store_base, flush_base, MayStage, MayFlush, MayRing, MayEnd, MayStoreHead, MayStoreBase}
+use Rattle.mq_core.specs.Events.{us_of, MayStage, MayFlush, MayRing, MayEnd, MayStoreHead, MayStoreBase}
 use Rattle.mq_core.specs.declared.event.CoreRefusal.{CoreRefusal}
-use Rattle.mq_core.specs.declared.event.CoreRefusal.TheVariants.{NotAllowed, OutOfMemory}
+use Rattle.mq_core.specs.Machine as journal
+use Rattle.mq_core.specs.Machine.{Event}
+use Rattle.mq_core.specs.Runs.{run_by, AreAllowedBy, HoldsAlways, IsRefusedBy, IsRefusalBy}
 use Rattle.mq_loose.specs.Guards.{entries_in, settled, tx_of, MayDrawLoose, MayWriteHome}
 use Rattle.mq_loose.specs.Safe.{IsSafe}
 pub use Rattle.mq_loose.specs.declared.event.LooseEvent.{LooseEvent}
 pub use Rattle.mq_loose.specs.declared.event.LooseEvent.TheVariants.{Draw, Stage, Flush, Ring, Complete, FailCommand, StoreHead, FlushHead, Acknowledge, WriteHome, HomeDone, StoreBase, FlushBase}
 
+-- as an event of the journal's machine
+abbrev pub event_of : LooseEvent → Event
+event_of (Draw t) = journal.Draw (tx_of t)
+event_of (Stage q) = journal.Stage q
+event_of (Flush q) = journal.Flush q
+event_of (Ring q) = journal.Ring q
+event_of (Complete q c) = journal.Complete q c
+event_of (FailCommand q c) = journal.FailCommand q c
+event_of (StoreHead q h) = journal.StoreHead q h
+event_of (FlushHead q) = journal.FlushHead q
+event_of (Acknowledge n) = journal.Acknowledge n
+event_of (WriteHome x) = journal.WriteHome x
+event_of (HomeDone x) = journal.HomeDone x
+event_of (StoreBase b) = journal.StoreBase b
+event_of FlushBase = journal.FlushBase
+
 abbrev pub happens : Entries → LooseEvent → State → State
-happens e (Draw t) s = draw (tx_of t) s
-happens e (Stage q) s = stage (entries_in e s) q s
-happens e (Flush q) s = flush q s
-happens e (Ring q) s = ring q s
-happens e (Complete q c) s = complete q c s
-happens e (FailCommand q c) s = fail_command q c s
-happens e (StoreHead q h) s = store_head q h s
-happens e (FlushHead q) s = flush q s
-happens e (Acknowledge n) s = acknowledge n s
-happens e (WriteHome x) s = write_home x s
-happens e (HomeDone x) s = home_done x s
-happens e (StoreBase b) s = store_base b s
-happens e FlushBase s = flush_base s
+happens e v s = journal.happens (entries_in e s) (event_of v) s
 
 abbrev pub IsAllowed : Entries → LooseEvent → State → Type 0
 IsAllowed e (Draw t) s = MayDrawLoose e s (tx_of t) t.deps
@@ -46,26 +52,20 @@ IsAllowed e (StoreBase b) s = MayStoreBase e s b
 IsAllowed e FlushBase s = Unit {0}
 
 abbrev pub run : Entries → List LooseEvent → State → State
-run e [] s = s
-run e (v ∷ vs) s = run e vs (happens e v s)
+run e vs s = run_by (λ v t. happens e v t) vs s
 
 -- each event is allowed where it happens
 abbrev pub AreAllowed : Entries → List LooseEvent → State → Type 0
-AreAllowed e [] s = Unit {0}
-AreAllowed e (v ∷ vs) s = IsAllowed e v s × AreAllowed e vs (happens e v s)
+AreAllowed e vs s = AreAllowedBy (λ v t. IsAllowed e v t) (λ v t. happens e v t) vs s
 
 -- the state is safe before, after and between the events
 abbrev pub IsAlwaysSafe : Entries → List LooseEvent → State → Type 0
-IsAlwaysSafe e [] s = IsSafe e s
-IsAlwaysSafe e (v ∷ vs) s = IsSafe e s × IsAlwaysSafe e vs (happens e v s)
+IsAlwaysSafe e vs s = HoldsAlways (λ t. IsSafe e t) (λ v t. happens e v t) vs s
 
 -- the event at this index is the first that isn't allowed where it happens
 abbrev pub IsRefusedAt : Entries → List LooseEvent → State → ℕ → Type 0
-IsRefusedAt e [] s n = ⊥
-IsRefusedAt e (v ∷ vs) s zero = IsAllowed e v s → ⊥
-IsRefusedAt e (v ∷ vs) s (suc n) = IsAllowed e v s × IsRefusedAt e vs (happens e v s) n
+IsRefusedAt e vs s n = IsRefusedBy (λ v t. IsAllowed e v t) (λ v t. happens e v t) vs s n
 
 -- why a run is refused: an event isn't allowed, or out of memory
 abbrev pub IsRefusal : Entries → List LooseEvent → State → CoreRefusal → Type 0
-IsRefusal e vs s (NotAllowed n) = IsRefusedAt e vs s n
-IsRefusal e vs s OutOfMemory = Unit {0}
+IsRefusal e vs s r = IsRefusalBy (λ v t. IsAllowed e v t) (λ v t. happens e v t) vs s r

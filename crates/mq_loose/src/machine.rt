@@ -1,5 +1,4 @@
 // The machine.
-mod bases;
 mod homes;
 mod numbers;
 mod rings;

@@ -24,13 +24,13 @@ use Rattle.mq_drive.specs.declared.role.Role.{Role}
 use Rattle.mq_drive.specs.declared.role.Role.TheVariants as role
 use Rattle.mq_image.specs.File.{DriveImage, queue_ports, root_port}
 use Rattle.mq_image_run.specs.Drives.{emu_ghosts, has_failed}
-use Rattle.mq_image_run.specs.Runs.{IsLast, IsRunOf, IsStop}
-use Rattle.mq_image_run.specs.Endings.{finishes, limit_of}
-use Rattle.mq_image_run.specs.declared.options.Ending.{Ending}
-use Rattle.mq_image_run.specs.declared.options.Ending.TheVariants as ending
-use Rattle.mq_image_run.specs.declared.options.RunOptions.{RunOptions}
-use Rattle.mq_image_run.specs.declared.ran.ImageRun.{ImageRun}
-use Rattle.mq_image_run.proofs.RunsPowered.{behind-none}
+use Rattle.mq_run_laws.specs.Runs.{IsLast, IsRunOf, IsStop}
+use Rattle.mq_run_laws.specs.Endings.{finishes, limit_of}
+use Rattle.mq_run_laws.specs.declared.options.Ending.{Ending}
+use Rattle.mq_run_laws.specs.declared.options.Ending.TheVariants as ending
+use Rattle.mq_run_laws.specs.declared.options.RunOptions.{RunOptions}
+use Rattle.mq_run_laws.specs.declared.ran.ImageRun.{ImageRun}
+use Rattle.mq_image_run.proofs.Powered.{behind-none}
 use Rattle.mq_image_ops.specs.Cuts.{row_of}
 use Rattle.mq_image_ops.specs.Views.{command_of, starts_from, view_of}
 use Rattle.mq_image_ops.specs.declared.ports.Failing.{Failing}
@@ -195,7 +195,7 @@ module _ (x : DriveImage) (scripts : List Script) (o : RunOptions) (r : ImageRun
   g = x.geometry
 
   abbrev old : Ports EmuPort
-  old = run.stops.drives.ports
+  old = run.on.stops.drives.ports
 
   abbrev end : RunEnd EmuPort
   end = saved.end x scripts o r run bytes
@@ -206,14 +206,14 @@ module _ (x : DriveImage) (scripts : List Script) (o : RunOptions) (r : ImageRun
   abbrev ran : HasRunScripts emu_ghosts emu_state emu_faults g old (saved.standing x scripts o r run bytes) scripts (finishes o.ending) end
   ran = saved.ran x scripts o r run bytes
 
-  same : run.recovered.image.geometry ≡ g
-  same = run.recovery.geometry
+  same : run.on.recovered.image.geometry ≡ g
+  same = run.on.recovery.geometry
 
   are-ports : ArePorts g (drive_of emu_state new)
-  are-ports = subst (λ (z : Geometry). ArePorts z (drive_of emu_state new)) same run.stops.drives.has.same_ports
+  are-ports = subst (λ (z : Geometry). ArePorts z (drive_of emu_state new)) same run.on.stops.drives.kept.same_ports
 
   bounds : AreBoundsKept g (drive_of emu_state old) (drive_of emu_state new)
-  bounds = subst (λ (z : Geometry). AreBoundsKept z (drive_of emu_state old) (drive_of emu_state new)) same run.stops.drives.has.bounds
+  bounds = subst (λ (z : Geometry). AreBoundsKept z (drive_of emu_state old) (drive_of emu_state new)) same run.on.stops.drives.kept.bounds
 
   -- ---- the fuses and the failing command of the ports
 
@@ -224,21 +224,21 @@ module _ (x : DriveImage) (scripts : List Script) (o : RunOptions) (r : ImageRun
       let count = are-ports.count in
       (omega arith, get_or_from_slice_get (map emu_state new.queues.items) q (emu_state p) no_port (image_at emu_state new.queues.items q p at))
 
-  bound-at : (Q : FuseName → Option ℕ → Type 0) → ((k : ℕ) → Q run.fuse (command_of o.fail k)) → Q no_fuse None → (t : Turn) (p : EmuPort) → IsUnder new t p → Q (emu_state p).fuse (emu_state p).fail
+  bound-at : (Q : FuseName → Option ℕ → Type 0) → ((k : ℕ) → Q run.on.fuse (command_of o.fail k)) → Q no_fuse None → (t : Turn) (p : EmuPort) → IsUnder new t p → Q (emu_state p).fuse (emu_state p).fail
   bound-at Q each none (Page b) p under = absurd under
   bound-at Q each none (Side q) p under =
       let at = state-at q p under in
       let kept = bounds.queues q at.0 in
-      let began : Q (port_at (map emu_state old.queues.items) q).fuse (port_at (map emu_state old.queues.items) q).fail = subst (λ (d : DriveState). Q (port_at d.queues q).fuse (port_at d.queues q).fail) (sym run.stops.drives.started.states) (starts-hold Q run.recovered.image.geometry run.fuse o.fail each none 0 (queue_ports run.recovered.image) q) in
+      let began : Q (port_at (map emu_state old.queues.items) q).fuse (port_at (map emu_state old.queues.items) q).fail = subst (λ (d : DriveState). Q (port_at d.queues q).fuse (port_at d.queues q).fail) (sym run.on.stops.drives.started.states) (starts-hold Q run.on.recovered.image.geometry run.on.fuse o.fail each none 0 (queue_ports run.on.recovered.image) q) in
       subst (λ (s : PortState). Q s.fuse s.fail) at.1 (subst (λ (z : FuseName × Option ℕ). Q z.0 z.1) (λ i. (sym kept.fuse i, sym kept.fail i)) began)
   bound-at Q each none Root p under =
       let kept = bounds.root in
-      let began : Q (emu_state old.root).fuse (emu_state old.root).fail = subst (λ (d : DriveState). Q d.root.fuse d.root.fail) (sym run.stops.drives.started.states) (each run.recovered.image.geometry.queues) in
+      let began : Q (emu_state old.root).fuse (emu_state old.root).fail = subst (λ (d : DriveState). Q d.root.fuse d.root.fail) (sym run.on.stops.drives.started.states) (each run.on.recovered.image.geometry.queues) in
       subst (λ (p : EmuPort). Q (emu_state p).fuse (emu_state p).fail) (sym under) (subst (λ (z : FuseName × Option ℕ). Q z.0 z.1) (λ i. (sym kept.fuse i, sym kept.fail i)) began)
 
   -- without a cut the power of no port was off
   on-always : limit_of o.ending ≡ None → (t : Turn) (p : EmuPort) → IsUnder new t p → offs_of p ≡ 0
-  on-always no_cut t p under = never-off p (bound-at (λ f n. f.limit ≡ None) (λ k. run.power ∙ no_cut) refl t p under)
+  on-always no_cut t p under = never-off p (bound-at (λ f n. f.limit ≡ None) (λ k. run.on.power ∙ no_cut) refl t p under)
 
   -- ---- the port that is behind a refusal
 
@@ -301,7 +301,7 @@ module _ (x : DriveImage) (scripts : List Script) (o : RunOptions) (r : ImageRun
       by : (e : Ending) → o.ending ≡ e → IsPoweredOff o r
       by ending.Checkpoint asked = absurd (none-refused (ap limit_of asked) h)
       by ending.Sessions asked = absurd (none-refused (ap limit_of asked) h)
-      by (ending.Cut k) cut = (k, cut, last-cut k run.stopped.events run.stopped.driven.finished r.last (subst (λ (z : Ending). IsLast z run.stopped.events run.stopped.driven.finished r.last) cut run.last) (run.stops.off k h.port (run.power ∙ ap limit_of cut) h.own h.off))
+      by (ending.Cut k) cut = (k, cut, last-cut k run.events run.played.finished r.last (subst (λ (z : Ending). IsLast z run.events run.played.finished r.last) cut run.last) (run.on.stops.off k h.port (run.on.power ∙ ap limit_of cut) h.own h.off))
 
   -- where a port has counted all its faults, its power was off
   refused-by : HaveCountedAll (row_of new) → HasRefusedEvent
@@ -319,7 +319,7 @@ module _ (x : DriveImage) (scripts : List Script) (o : RunOptions) (r : ImageRun
   -- ---- the command that had to fail
 
   failed-is : r.failed ≡ has_failed (row_of new)
-  failed-is = run.failed ∙ run.stops.drives.has.failed
+  failed-is = run.on.stops.drives.any_failed
 
   -- the number of a port
   abbrev number-at : Turn → ℕ
@@ -340,15 +340,15 @@ module _ (x : DriveImage) (scripts : List Script) (o : RunOptions) (r : ImageRun
   fail-at (Page b) p under = absurd under
   fail-at (Side q) p under =
       let at = state-at q p under in
-      let low : q < run.recovered.image.geometry.queues = subst (λ (z : Geometry). q < z.queues) (sym same) at.0 in
+      let low : q < run.on.recovered.image.geometry.queues = subst (λ (z : Geometry). q < z.queues) (sym same) at.0 in
       ap (λ (s : PortState). s.fail) (sym at.1)
       ∙ ((bounds.queues q at.0).fail
-      ∙ (ap (λ (d : DriveState). (port_at d.queues q).fail) run.stops.drives.started.states
-      ∙ ap (λ (s : PortState). s.fail) (start-queue run.fuse o.fail run.recovered.image q run.recovery.drive low)))
+      ∙ (ap (λ (d : DriveState). (port_at d.queues q).fail) run.on.stops.drives.started.states
+      ∙ ap (λ (s : PortState). s.fail) (start-queue run.on.fuse o.fail run.on.recovered.image q run.on.recovery.drive low)))
   fail-at Root p under =
       ap (λ (z : EmuPort). (emu_state z).fail) under
       ∙ (bounds.root.fail
-      ∙ (ap (λ (d : DriveState). d.root.fail) run.stops.drives.started.states
+      ∙ (ap (λ (d : DriveState). d.root.fail) run.on.stops.drives.started.states
       ∙ ap (λ (z : Geometry). command_of o.fail z.queues) same))
 
   -- where a write of the port has failed, a command had to fail, and its port has this number
@@ -488,4 +488,4 @@ module _ (x : DriveImage) (scripts : List Script) (o : RunOptions) (r : ImageRun
     stopped-by ending.Checkpoint events None last asked is told = absurd told
 
     pub is-stop : IsStopOf g o r (row_of new) reached r.last
-    is-stop = stopped-by o.ending run.stopped.events end.finished r.last refl refl (subst (λ f. IsLast o.ending run.stopped.events f r.last) (saved.end-finished x scripts o r run bytes) run.last)
+    is-stop = stopped-by o.ending run.events end.finished r.last refl refl run.last

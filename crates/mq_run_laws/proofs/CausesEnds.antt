@@ -3,10 +3,10 @@ use Rattle.std.proofs.Common.{◌≡◌, ◌≤◌, ℕ, Option, Some, None, sym
 use Rattle.std.specs.Prelude.{Result, Ok, Err}
 use Rattle.mq_journal.specs.declared.refusal.CheckpointRefusal.{CheckpointRefusal}
 use Rattle.mq_journal.specs.declared.refusal.CheckpointRefusal.TheVariants as checkpoint
-use Rattle.mq_image_run.specs.Endings.{limit_of}
-use Rattle.mq_image_run.specs.Runs.{IsLast}
-use Rattle.mq_image_run.specs.declared.options.Ending.{Ending}
-use Rattle.mq_image_run.specs.declared.options.Ending.TheVariants as ending
+use Rattle.mq_run_laws.specs.Endings.{limit_of}
+use Rattle.mq_run_laws.specs.Runs.{IsLast}
+use Rattle.mq_run_laws.specs.declared.options.Ending.{Ending}
+use Rattle.mq_run_laws.specs.declared.options.Ending.TheVariants as ending
 use Rattle.mq_report.specs.declared.line.Last.{Last}
 use Rattle.mq_queue_side.specs.declared.answers.Cause.TheVariants as cause
 use Rattle.mq_run_laws.specs.Causes.{IsEndOf}

@@ -17,9 +17,9 @@ use Rattle.mq_run_laws.specs.Legal.{newest}
 use Rattle.mq_run_laws.proofs.LegalFacts.{count-once}
 use Rattle.mq_image.specs.File.{DriveImage}
 use Rattle.mq_image_ops.specs.Views.{view_of}
-use Rattle.mq_image_run.specs.Endings.{limit_of}
-use Rattle.mq_image_run.specs.declared.options.RunOptions.{RunOptions}
-use Rattle.mq_image_run.specs.declared.ran.ImageRun.{ImageRun}
+use Rattle.mq_run_laws.specs.Endings.{limit_of}
+use Rattle.mq_run_laws.specs.declared.options.RunOptions.{RunOptions}
+use Rattle.mq_run_laws.specs.declared.ran.ImageRun.{ImageRun}
 use Rattle.mq_queue_side.specs.declared.answers.Cause.{Cause}
 use Rattle.mq_queue_side.specs.declared.answers.Cause.TheVariants.{Failed, FailedHome, Off, Stopped}
 use Rattle.mq_queue_side.specs.declared.answers.Why.TheVariants as why

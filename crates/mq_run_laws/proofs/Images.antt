@@ -7,10 +7,10 @@ use Rattle.mq_queue_side.specs.declared.answers.Refusal.{Refusal}
 use Rattle.mq_drive.specs.Emu.{emu_faults, emu_state}
 use Rattle.mq_image.specs.File.{DriveImage}
 use Rattle.mq_image_run.specs.Drives.{emu_ghosts, was_executed}
-use Rattle.mq_image_run.specs.Runs.{IsRunOf}
-use Rattle.mq_image_run.specs.Endings.{finishes, limit_of}
-use Rattle.mq_image_run.specs.declared.options.RunOptions.{RunOptions}
-use Rattle.mq_image_run.specs.declared.ran.ImageRun.{ImageRun}
+use Rattle.mq_run_laws.specs.Runs.{IsRunOf}
+use Rattle.mq_run_laws.specs.Endings.{finishes, limit_of}
+use Rattle.mq_run_laws.specs.declared.options.RunOptions.{RunOptions}
+use Rattle.mq_run_laws.specs.declared.ran.ImageRun.{ImageRun}
 use Rattle.mq_image_ops.specs.Cuts.{row_of}
 use Rattle.mq_image_ops.specs.declared.ports.Failing.{Failing}
 use Rattle.mq_run_laws.specs.Answers.{AreCaused, IsPortCause}
@@ -41,7 +41,7 @@ module _ (x : DriveImage) (scripts : List Script) (o : RunOptions) (r : ImageRun
       subst (λ es. IsPortCause x.geometry es.items cut.0 cause) (sym entries)
       (have-port-causes x scripts o r run bytes v cut.0 cut.1 t f cause (subst (λ ts. Contains ts.items t) answers c) bad is) in
       let are : AreCaused x.geometry scripts v standing.base end.entries.items cut.0 end.answers.items = λ t c.
-      is-caused emu_ghosts emu_state emu_faults x.geometry run.stops.drives.ports standing scripts (finishes o.ending) end (saved.ran x scripts o r run bytes) run.short v bytes (saved.laid x scripts o r run bytes) cut.0 t c (λ f cause bad is. given t f cause c bad is) in
+      is-caused emu_ghosts emu_state emu_faults x.geometry run.on.stops.drives.ports standing scripts (finishes o.ending) end (saved.ran x scripts o r run bytes) run.short v bytes (saved.laid x scripts o r run bytes) cut.0 t c (λ f cause bad is. given t f cause c bad is) in
       subst (λ (b : ℕ). AreCaused x.geometry scripts v b r.entries.items cut.0 r.answers.items) (saved.base-is x scripts o r run bytes)
       (subst (λ ts. AreCaused x.geometry scripts v standing.base r.entries.items cut.0 ts.items) answers
       (subst (λ es. AreCaused x.geometry scripts v standing.base es.items cut.0 end.answers.items) entries are))
@@ -52,7 +52,7 @@ module _ (x : DriveImage) (scripts : List Script) (o : RunOptions) (r : ImageRun
 
   -- no command has failed where none was to
   spared : o.fail ≡ None → r.failed ≡ false
-  spared none = run.failed ∙ (run.stops.drives.named ∙ ap (λ (f : Option Failing). was_executed f (row_of run.stops.drives.has.end.ports)) none)
+  spared none = run.on.stops.drives.named ∙ ap (λ (f : Option Failing). was_executed f (row_of run.on.stops.drives.end)) none
 
   pub keeps-promise : KeepsPromise x scripts o r
   keeps-promise = record {
@@ -70,10 +70,10 @@ module _ (x : DriveImage) (scripts : List Script) (o : RunOptions) (r : ImageRun
     charged = λ again f. is-charged-once x scripts o r again bytes f;
     spared = spared;
     ended = run.ended;
-    last = end-of o.ending run.fuse.limit run.stopped.events run.stopped.driven.finished r.last run.power (λ l is. (run.stops.happened l is).1) run.last;
+    last = end-of o.ending run.on.fuse.limit run.events run.played.finished r.last run.on.power (λ l is. (run.on.stops.happened l is).1) run.last;
     stopped = stop-told;
     clean = saved.cleaned x scripts o r run bytes;
     complete = λ asked none wanted.
         let last = run.ended asked (spared none) in
-        is-complete x scripts o r (saved.volume x scripts o r run bytes) (saved.is-a-cut x scripts o r run bytes).0 (row_of run.stops.drives.has.end.ports) (ap limit_of asked) none wanted (saved.answered x scripts o r run bytes) caused (are-backed x scripts o r run bytes) last.0 last.1 (saved.cleaned x scripts o r run bytes last.0 last.1);
+        is-complete x scripts o r (saved.volume x scripts o r run bytes) (saved.is-a-cut x scripts o r run bytes).0 (row_of run.on.stops.drives.end) (ap limit_of asked) none wanted (saved.answered x scripts o r run bytes) caused (are-backed x scripts o r run bytes) last.0 last.1 (saved.cleaned x scripts o r run bytes last.0 last.1);
   }

@@ -43,3 +43,8 @@ pub mod SmallRun
 pub mod ReportImages
 mod Orders
 mod Replies
+pub mod DrivesMounting
+pub mod RunsEnded
+pub mod RunsRefused
+pub mod RunsStopped
+pub mod ScriptsCounting

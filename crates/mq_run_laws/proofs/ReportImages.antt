@@ -6,10 +6,10 @@ use Rattle.mq_drive.specs.Emu.{emu_faults, emu_state}
 use Rattle.mq_run_laws.specs.Histories.{AreOfBytes}
 use Rattle.mq_image.specs.File.{DriveImage}
 use Rattle.mq_image_run.specs.Drives.{emu_ghosts}
-use Rattle.mq_image_run.specs.Runs.{IsRunOf}
-use Rattle.mq_image_run.specs.Endings.{finishes}
-use Rattle.mq_image_run.specs.declared.options.RunOptions.{RunOptions}
-use Rattle.mq_image_run.specs.declared.ran.ImageRun.{ImageRun}
+use Rattle.mq_run_laws.specs.Runs.{IsRunOf}
+use Rattle.mq_run_laws.specs.Endings.{finishes}
+use Rattle.mq_run_laws.specs.declared.options.RunOptions.{RunOptions}
+use Rattle.mq_run_laws.specs.declared.ran.ImageRun.{ImageRun}
 use Rattle.mq_report.specs.Orders.{IsToldBefore, Precedes}
 use Rattle.mq_report.specs.Reports.{MayBeReported}
 use Rattle.mq_run_laws.proofs.ViewsSaved as saved
@@ -23,8 +23,8 @@ may-be-reported x scripts o r run bytes =
     let end = saved.end x scripts o r run bytes in
     let ran = saved.ran x scripts o r run bytes in record {
       entries_order = subst (λ es. AllPairs Precedes es.items) (saved.entries-are x scripts o r run bytes)
-          (lines-order emu_ghosts emu_state emu_faults x.geometry run.stops.drives.ports standing scripts (finishes o.ending) end ran run.short);
+          (lines-order emu_ghosts emu_state emu_faults x.geometry run.on.stops.drives.ports standing scripts (finishes o.ending) end ran run.short);
       answers_order = subst (λ ts. AllPairs IsToldBefore ts.items) (saved.answers-are x scripts o r run bytes)
-          (answers-order emu_ghosts emu_state emu_faults x.geometry run.stops.drives.ports standing scripts (finishes o.ending) end ran);
+          (answers-order emu_ghosts emu_state emu_faults x.geometry run.on.stops.drives.ports standing scripts (finishes o.ending) end ran);
       replies_fit = run-fit x.geometry scripts (saved.volume x scripts o r run bytes) r.base r.entries.items (saved.laid x scripts o r run bytes).sound bytes (saved.legal-list x scripts o r run bytes).run;
     }

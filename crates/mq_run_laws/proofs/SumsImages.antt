@@ -8,10 +8,10 @@ use Rattle.mq_run_laws.specs.Histories.{AreOfBytes}
 use Rattle.mq_image.specs.File.{DriveImage}
 use Rattle.mq_image_ops.specs.Cuts.{row_of}
 use Rattle.mq_image_run.specs.Drives.{emu_ghosts}
-use Rattle.mq_image_run.specs.Runs.{IsRunOf}
-use Rattle.mq_image_run.specs.Endings.{finishes}
-use Rattle.mq_image_run.specs.declared.options.RunOptions.{RunOptions}
-use Rattle.mq_image_run.specs.declared.ran.ImageRun.{ImageRun}
+use Rattle.mq_run_laws.specs.Runs.{IsRunOf}
+use Rattle.mq_run_laws.specs.Endings.{finishes}
+use Rattle.mq_run_laws.specs.declared.options.RunOptions.{RunOptions}
+use Rattle.mq_run_laws.specs.declared.ran.ImageRun.{ImageRun}
 use Rattle.mq_recover.specs.Drives.{faults_on}
 use Rattle.mq_script.specs.Scripts.{Script}
 use Rattle.mq_tie.specs.Backed.{faults_at}
@@ -24,7 +24,7 @@ use Rattle.mq_run_laws.proofs.ViewsSaved as saved
 
 module _ (x : DriveImage) (scripts : List Script) (o : RunOptions) (r : ImageRun) (run : IsRunOf x scripts o r) (bytes : AreOfBytes scripts) (f : PortFault → Bool) where
   abbrev new : Ports EmuPort
-  new = run.stops.drives.has.end.ports
+  new = run.on.stops.drives.end
 
   -- where a port counts no more, the power went off
   none-more : HasCountedAll (faults_on emu_faults new) → IsUntold o r (row_of new)
@@ -36,10 +36,9 @@ module _ (x : DriveImage) (scripts : List Script) (o : RunOptions) (r : ImageRun
 
   pub is-charged-once : IsChargedOnce x scripts o r run f
   is-charged-once =
-      let told : HasCountedAll (faults_on emu_faults new) ⊎ IsSum x.geometry f (saved.end x scripts o r run bytes).answers.items (saved.end x scripts o r run bytes).finished (faults_on emu_faults run.stops.drives.ports) (faults_on emu_faults new) =
-      charged-once emu_ghosts emu_state emu_faults x.geometry run.stops.drives.ports (saved.standing x scripts o r run bytes) scripts (finishes o.ending) (saved.end x scripts o r run bytes) (saved.ran x scripts o r run bytes) run.short f in
+      let told : HasCountedAll (faults_on emu_faults new) ⊎ IsSum x.geometry f (saved.end x scripts o r run bytes).answers.items (saved.end x scripts o r run bytes).finished (faults_on emu_faults run.on.stops.drives.ports) (faults_on emu_faults new) =
+      charged-once emu_ghosts emu_state emu_faults x.geometry run.on.stops.drives.ports (saved.standing x scripts o r run bytes) scripts (finishes o.ending) (saved.end x scripts o r run bytes) (saved.ran x scripts o r run bytes) run.short f in
       elim told [
         | inl all ↦ inl (none-more all)
-        | inr sum ↦ inr (subst (λ fin. IsSum x.geometry f r.answers.items fin (faults_on emu_faults run.stops.drives.ports) (faults_on emu_faults new)) (sym (saved.end-finished x scripts o r run bytes))
-            (subst (λ ts. IsSum x.geometry f ts.items (saved.end x scripts o r run bytes).finished (faults_on emu_faults run.stops.drives.ports) (faults_on emu_faults new)) (saved.answers-are x scripts o r run bytes) sum))
+        | inr sum ↦ inr (subst (λ ts. IsSum x.geometry f ts.items run.played.finished (faults_on emu_faults run.on.stops.drives.ports) (faults_on emu_faults new)) (saved.answers-are x scripts o r run bytes) sum)
       ]

@@ -13,13 +13,14 @@ use Rattle.mq_image.specs.Drives as file
 use Rattle.mq_image.specs.Faults.{HasFault}
 use Rattle.mq_image.specs.File.{DriveImage, image_bytes, queue_ports, root_port}
 use Rattle.mq_image.proofs.FileForms.{formed-drive, formed-good}
-use Rattle.mq_image_run.specs.Drives.{HasDriven, emu_ghosts}
-use Rattle.mq_image_run.specs.Runs.{IsLast, IsRunOf}
-use Rattle.mq_image_run.specs.Endings.{finishes}
-use Rattle.mq_image_run.specs.declared.options.Ending.{Ending}
-use Rattle.mq_image_run.specs.declared.options.Ending.TheVariants as ending
-use Rattle.mq_image_run.specs.declared.options.RunOptions.{RunOptions}
-use Rattle.mq_image_run.specs.declared.ran.ImageRun.{ImageRun}
+use Rattle.mq_image_run.specs.Drives.{IsDriven, emu_ghosts}
+use Rattle.mq_run_laws.specs.Runs.{IsLast, IsRunOf}
+use Rattle.mq_run_laws.specs.Endings.{drive_options, finishes}
+use Rattle.mq_run_laws.specs.Played.{PlaysScripts, with_told}
+use Rattle.mq_run_laws.specs.declared.options.Ending.{Ending}
+use Rattle.mq_run_laws.specs.declared.options.Ending.TheVariants as ending
+use Rattle.mq_run_laws.specs.declared.options.RunOptions.{RunOptions}
+use Rattle.mq_run_laws.specs.declared.ran.ImageRun.{ImageRun}
 use Rattle.mq_image_ops.specs.Cuts.{with_ports}
 use Rattle.mq_image_ops.specs.Standing.{AreStanding}
 use Rattle.mq_image_ops.specs.Views.{view_of}
@@ -68,23 +69,23 @@ module _ (x : DriveImage) (scripts : List Script) (o : RunOptions) (r : ImageRun
   abbrev pub g : Geometry
   g = x.geometry
 
-  abbrev has : HasDriven run.recovered.image.geometry run.stops.drives.ports run.stops.drives.standing scripts o run.stopped.driven run.stops.seats
-  has = run.stops.drives.has
+  abbrev drives : IsDriven (PlaysScripts g scripts (finishes o.ending)) run.on.fuse run.on.recovered.image (drive_options o) run.played r.failed r.image.ports run.on.stops.seats
+  drives = run.on.stops.drives
 
   abbrev pub standing : Standing
-  standing = run.stops.drives.standing
+  standing = drives.plays.standing
 
   abbrev pub end : RunEnd EmuPort
-  end = has.end
+  end = with_told drives.plays.rest drives.end run.played
 
-  same : run.recovered.image.geometry ≡ g
-  same = run.recovery.geometry
+  same : run.on.recovered.image.geometry ≡ g
+  same = run.on.recovery.geometry
 
-  pub ran : HasRunScripts emu_ghosts emu_state emu_faults g run.stops.drives.ports standing scripts (finishes o.ending) end
-  ran = subst (λ (z : Geometry). HasRunScripts emu_ghosts emu_state emu_faults z run.stops.drives.ports standing scripts (finishes o.ending) end) same has.ran
+  pub ran : HasRunScripts emu_ghosts emu_state emu_faults g run.on.stops.drives.ports standing scripts (finishes o.ending) end
+  ran = drives.plays.ran
 
-  pub opens : MayOpen g (drive_of emu_state run.stops.drives.ports) standing
-  opens = subst (λ (z : Geometry). MayOpen z (drive_of emu_state run.stops.drives.ports) standing) same run.stops.drives.opens
+  pub opens : MayOpen g (drive_of emu_state run.on.stops.drives.ports) standing
+  opens = drives.plays.opens
 
   abbrev pub volume : Volume
   volume = opens.mounts.0
@@ -94,19 +95,19 @@ module _ (x : DriveImage) (scripts : List Script) (o : RunOptions) (r : ImageRun
 
   -- ---- where the run starts
 
-  stood : StandsIn g (drive_of emu_state run.stops.drives.ports) standing
-  stood = subst (λ (z : Geometry). StandsIn z (drive_of emu_state run.stops.drives.ports) standing) same run.stops.drives.stands
+  stood : StandsIn g (drive_of emu_state run.on.stops.drives.ports) standing
+  stood = drives.plays.stands
 
-  blocks : AreStanding x run.recovery.ds standing.blocks.items
-  blocks = blocks-stand x run.recovered run.fuse o.fail run.stops.drives.ports run.recovery run.stops.drives.started standing stood
+  blocks : AreStanding x run.on.recovery.ds standing.blocks.items
+  blocks = blocks-stand x run.on.recovered run.on.fuse o.fail run.on.stops.drives.ports run.on.recovery run.on.stops.drives.started standing stood
 
   pub base-is : standing.base ≡ r.base
-  base-is = (none-above x run.recovered run.fuse o.fail run.stops.drives.ports run.recovery run.stops.drives.started standing stood).1 ∙ sym run.base_is
+  base-is = (none-above x run.on.recovered run.on.fuse o.fail run.on.stops.drives.ports run.on.recovery run.on.stops.drives.started standing stood).1 ∙ sym run.on.base_is
 
   pub starts : Starts g (view_of x) r.base volume
   starts = record {
-    ds = run.recovery.ds;
-    read = subst (λ (n : ℕ). IsReadPrefix g (view_of x) run.recovery.ds n) (sym (run.base_is ∙ run.recovery.base)) run.recovery.plan.read;
+    ds = run.on.recovery.ds;
+    read = subst (λ (n : ℕ). IsReadPrefix g (view_of x) run.on.recovery.ds n) (sym (run.on.base_is ∙ run.on.recovery.base)) run.on.recovery.plan.read;
     stored = standing.blocks.items;
     standing = record { whole = blocks.count; each = blocks.each };
     laid = laid;
@@ -115,45 +116,45 @@ module _ (x : DriveImage) (scripts : List Script) (o : RunOptions) (r : ImageRun
   -- ---- what it reports
 
   pub entries-are : end.entries ≡ r.entries
-  entries-are = sym (run.entries ∙ has.entries)
+  entries-are = sym run.entries
 
   pub answers-are : end.answers ≡ r.answers
-  answers-are = sym (run.answers ∙ has.answers)
+  answers-are = sym run.answers
 
   pub legal-list : IsLegal g scripts volume r.base r.entries.items
   legal-list =
-      let is = legal emu_ghosts emu_state emu_faults g run.stops.drives.ports standing scripts (finishes o.ending) end ran run.short volume bytes laid in
+      let is = legal emu_ghosts emu_state emu_faults g run.on.stops.drives.ports standing scripts (finishes o.ending) end ran run.short volume bytes laid in
       subst (λ (b : ℕ). IsLegal g scripts volume b r.entries.items) base-is (subst (λ es. IsLegal g scripts volume standing.base es.items) entries-are is)
 
   pub answered : AreAnswered scripts r.entries.items r.answers.items
   answered =
-      let is = are-answered emu_ghosts emu_state emu_faults g run.stops.drives.ports standing scripts (finishes o.ending) end ran run.short in
+      let is = are-answered emu_ghosts emu_state emu_faults g run.on.stops.drives.ports standing scripts (finishes o.ending) end ran run.short in
       subst (λ told. AreAnswered scripts r.entries.items told.items) answers-are (subst (λ es. AreAnswered scripts es.items end.answers.items) entries-are is)
 
   -- ---- what it leaves
 
   abbrev left : DriveImage
-  left = with_ports run.recovered.image run.stopped.driven.images.items
+  left = with_ports run.on.recovered.image r.image.ports
 
   image-is : left ≡ r.image
-  image-is = λ i. record { geometry = (same ∙ sym run.geometry) i; ports = sym run.ports i }
+  image-is = λ i. record { geometry = (same ∙ sym run.on.geometry) i; ports = r.image.ports }
 
   pub images : AreImages g (drive_of emu_state end.ports) (queue_ports r.image) (root_port r.image)
   images =
-      let of_left = left-images run.recovered.image end.ports o.pick run.stopped.driven.images.items run.stops.seats has.cut has.same_ports in
+      let of_left = left-images run.on.recovered.image end.ports o.pick r.image.ports run.on.stops.seats drives.cut drives.kept.same_ports in
       let of_image : AreImages r.image.geometry (drive_of emu_state end.ports) (queue_ports r.image) (root_port r.image) = subst (λ (y : DriveImage). AreImages y.geometry (drive_of emu_state end.ports) (queue_ports y) (root_port y)) image-is of_left in
-      subst (λ (z : Geometry). AreImages z (drive_of emu_state end.ports) (queue_ports r.image) (root_port r.image)) run.geometry of_image
+      subst (λ (z : Geometry). AreImages z (drive_of emu_state end.ports) (queue_ports r.image) (root_port r.image)) run.on.geometry of_image
 
   -- what the image shows, by the geometry of the old one
   abbrev pub seen : Shown
   seen = shown journal_reading g (queue_ports r.image) (root_port r.image)
 
   pub seen-is : seen ≡ view_of r.image
-  seen-is = ap (λ (z : Geometry). shown journal_reading z (queue_ports r.image) (root_port r.image)) (sym run.geometry)
+  seen-is = ap (λ (z : Geometry). shown journal_reading z (queue_ports r.image) (root_port r.image)) (sym run.on.geometry)
 
   pub is-a-cut : (k : ℕ) × IsCut g scripts volume r.base r.entries.items r.answers.items (view_of r.image) k
   is-a-cut =
-      let is = is-cut emu_ghosts emu_state emu_faults g run.stops.drives.ports standing scripts (finishes o.ending) end ran volume (queue_ports r.image) (root_port r.image) run.short bytes laid images in (
+      let is = is-cut emu_ghosts emu_state emu_faults g run.on.stops.drives.ports standing scripts (finishes o.ending) end ran volume (queue_ports r.image) (root_port r.image) run.short bytes laid images in (
         is.0,
         subst (λ (i : Shown). IsCut g scripts volume r.base r.entries.items r.answers.items i is.0) seen-is
             (subst (λ told. IsCut g scripts volume r.base r.entries.items told.items seen is.0) answers-are
@@ -163,29 +164,26 @@ module _ (x : DriveImage) (scripts : List Script) (o : RunOptions) (r : ImageRun
 
   -- ---- its doorbells
 
-  old-bell : (q : ℕ) → q < queues_of g → (port_at (drive_of emu_state run.stops.drives.ports).queues q).doorbell ≡ (view_of x).doorbell q
-  old-bell q own = doorbells-kept x run.recovered run.fuse o.fail run.stops.drives.ports run.recovery run.stops.drives.started q own
+  old-bell : (q : ℕ) → q < queues_of g → (port_at (drive_of emu_state run.on.stops.drives.ports).queues q).doorbell ≡ (view_of x).doorbell q
+  old-bell q own = doorbells-kept x run.on.recovered run.on.fuse o.fail run.on.stops.drives.ports run.on.recovery run.on.stops.drives.started q own
 
   new-bell : (q : ℕ) → q < queues_of g → (port_at (drive_of emu_state end.ports).queues q).doorbell ≡ (view_of r.image).doorbell q
   new-bell q own = sym (images.each q own).doorbell ∙ ap (λ (i : Shown). i.doorbell q) seen-is
 
   pub rung : (q : ℕ) → q < queues_of g → IsRung g scripts volume r.entries.items r.answers.items q ((view_of x).doorbell q) ((view_of r.image).doorbell q)
   rung q own =
-      let is = is-rung emu_ghosts emu_state emu_faults g run.stops.drives.ports standing scripts (finishes o.ending) end ran run.short q own volume bytes laid in
+      let is = is-rung emu_ghosts emu_state emu_faults g run.on.stops.drives.ports standing scripts (finishes o.ending) end ran run.short q own volume bytes laid in
       subst (λ (n : ℕ). IsRung g scripts volume r.entries.items r.answers.items q ((view_of x).doorbell q) n) (new-bell q own)
       (subst (λ (n : ℕ). IsRung g scripts volume r.entries.items r.answers.items q n (port_at (drive_of emu_state end.ports).queues q).doorbell) (old-bell q own)
-      (subst (λ told. IsRung g scripts volume r.entries.items told.items q (port_at (drive_of emu_state run.stops.drives.ports).queues q).doorbell (port_at (drive_of emu_state end.ports).queues q).doorbell) answers-are
-      (subst (λ es. IsRung g scripts volume es.items end.answers.items q (port_at (drive_of emu_state run.stops.drives.ports).queues q).doorbell (port_at (drive_of emu_state end.ports).queues q).doorbell) entries-are is)))
-
-  pub end-finished : run.stopped.driven.finished ≡ end.finished
-  end-finished = has.finished
+      (subst (λ told. IsRung g scripts volume r.entries.items told.items q (port_at (drive_of emu_state run.on.stops.drives.ports).queues q).doorbell (port_at (drive_of emu_state end.ports).queues q).doorbell) answers-are
+      (subst (λ es. IsRung g scripts volume es.items end.answers.items q (port_at (drive_of emu_state run.on.stops.drives.ports).queues q).doorbell (port_at (drive_of emu_state end.ports).queues q).doorbell) entries-are is)))
 
   finished-is : (n : ℕ) → r.last ≡ Clean n → end.finished ≡ Some (Ok n)
-  finished-is n told = sym has.finished ∙ told-clean o.ending run.stopped.events run.stopped.driven.finished r.last n run.last told
+  finished-is n told = told-clean o.ending run.events run.played.finished r.last n run.last told
 
   pub cleaned : (n : ℕ) → r.last ≡ Clean n → (n ≡ newest r.base r.entries.items) × IsClean g (view_of r.image) n
   cleaned n told =
-      let is = is-clean emu_ghosts emu_state emu_faults g run.stops.drives.ports standing scripts (finishes o.ending) end n ran (finished-is n told) (queue_ports r.image) (root_port r.image) run.short images in (
+      let is = is-clean emu_ghosts emu_state emu_faults g run.on.stops.drives.ports standing scripts (finishes o.ending) end n ran (finished-is n told) (queue_ports r.image) (root_port r.image) run.short images in (
         is.0 ∙ (ap (λ (b : ℕ). newest b end.entries.items) base-is ∙ ap (λ es. newest r.base es.items) entries-are),
         subst (λ (i : Shown). IsClean g i n) seen-is is.1,
       )
@@ -193,14 +191,14 @@ module _ (x : DriveImage) (scripts : List Script) (o : RunOptions) (r : ImageRun
   -- ---- its file
 
   pub file-whole : HasFault (image_bytes r.image) None
-  file-whole = formed-good 2 (queue_ports r.image) (root_port r.image) r.image (image_bytes r.image) (formed-drive r.image run.drive run.widths)
+  file-whole = formed-good 2 (queue_ports r.image) (root_port r.image) r.image (image_bytes r.image) (formed-drive r.image run.on.drive run.on.widths)
 
   -- what is read of the file reaches the same, and recovery of it leaves the volume
   file-cut : (z : DriveImage) → file.IsRead z (image_bytes r.image) → IsCut g scripts volume r.base r.entries.items r.answers.items (view_of z) is-a-cut.0
-  file-cut z read = subst (λ (i : Shown). IsCut g scripts volume r.base r.entries.items r.answers.items i is-a-cut.0) (sym (file-shows r.image z run.drive run.widths read).1) is-a-cut.1
+  file-cut z read = subst (λ (i : Shown). IsCut g scripts volume r.base r.entries.items r.answers.items i is-a-cut.0) (sym (file-shows r.image z run.on.drive run.on.widths read).1) is-a-cut.1
 
   pub file-recovered : (y z : DriveImage) → file.IsRead z (image_bytes r.image) → LeadsTo y z → HoldsVolume g y (volume_at g scripts volume r.entries.items is-a-cut.0)
   file-recovered y z read leads =
       let is = file-cut z read in
-      let same : z.geometry ≡ g = (file-shows r.image z run.drive run.widths read).0 ∙ run.geometry in
+      let same : z.geometry ≡ g = (file-shows r.image z run.on.drive run.on.widths read).0 ∙ run.on.geometry in
       holds-volume y z g is.ds is.top (volume_at g scripts volume r.entries.items is-a-cut.0) same is.read is.stand leads

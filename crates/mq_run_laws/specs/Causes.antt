@@ -9,11 +9,11 @@ use Rattle.mq_drive.specs.Emu.{emu_faults}
 use Rattle.mq_drive.specs.Steps.{CommandError, HomeError, PortFault}
 use Rattle.mq_drive.specs.declared.emu.EmuPort.{EmuPort}
 use Rattle.mq_image.specs.File.{DriveImage}
-use Rattle.mq_image_run.specs.Runs.{IsRunOf}
-use Rattle.mq_image_run.specs.declared.options.Ending.{Ending}
-use Rattle.mq_image_run.specs.declared.options.Ending.TheVariants as ending
-use Rattle.mq_image_run.specs.declared.options.RunOptions.{RunOptions}
-use Rattle.mq_image_run.specs.declared.ran.ImageRun.{ImageRun}
+use Rattle.mq_run_laws.specs.Runs.{IsRunOf}
+use Rattle.mq_run_laws.specs.declared.options.Ending.{Ending}
+use Rattle.mq_run_laws.specs.declared.options.Ending.TheVariants as ending
+use Rattle.mq_run_laws.specs.declared.options.RunOptions.{RunOptions}
+use Rattle.mq_run_laws.specs.declared.ran.ImageRun.{ImageRun}
 use Rattle.mq_image_ops.specs.Cuts.{row_of}
 use Rattle.mq_image_ops.specs.declared.ports.Failing.{Failing}
 use Rattle.mq_run_laws.specs.Answers.{IsErrorOf, IsUndone}
@@ -87,7 +87,7 @@ HasFailedHome g o r ports block = HasFailed o r ports (HomeError (home_lba g blo
 -- the ports of the drive at the end of a run, before the cut of their power, by their numbers: the root's last
 abbrev pub ports_of : {x : DriveImage} {scripts : List Script} {o : RunOptions} {r : ImageRun}
     → IsRunOf x scripts o r → List EmuPort
-ports_of run = row_of run.stops.drives.has.end.ports
+ports_of run = row_of run.on.stops.drives.end
 
 -- One of the ports has as many faults as a count of 64 bits can say. It counts none from there on, so it
 -- stands behind any refusal.
@@ -123,8 +123,8 @@ abbrev pub IsChargedOnce : (x : DriveImage) (scripts : List Script) (o : RunOpti
     → IsRunOf x scripts o r → (PortFault → Bool) → Type 0
 IsChargedOnce x scripts o r run f =
     IsUntold o r (ports_of run)
-    ⊎ IsSum x.geometry f r.answers.items run.stopped.driven.finished
-    (faults_on emu_faults run.stops.drives.ports) (faults_on emu_faults run.stops.drives.has.end.ports)
+    ⊎ IsSum x.geometry f r.answers.items run.played.finished
+    (faults_on emu_faults run.on.stops.drives.ports) (faults_on emu_faults run.on.stops.drives.end)
 
 -- ---- the end of a run
 

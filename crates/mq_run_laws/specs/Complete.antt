@@ -12,7 +12,7 @@ use Rattle.mq_run_laws.specs.Groups.{IsGroup}
 use Rattle.mq_run_laws.specs.Legal.{WritesFew, newest, volume_at}
 use Rattle.mq_image.specs.File.{DriveImage}
 use Rattle.mq_image_ops.specs.Views.{view_of}
-use Rattle.mq_image_run.specs.declared.ran.ImageRun.{ImageRun}
+use Rattle.mq_run_laws.specs.declared.ran.ImageRun.{ImageRun}
 use Rattle.mq_report.specs.declared.line.Last.TheVariants.{Clean}
 use Rattle.mq_report.specs.declared.line.Line.{Line}
 use Rattle.mq_report.specs.declared.line.Told.{Told}

@@ -5,10 +5,10 @@ use Rattle.mq_drive.specs.Steps.{PortFault}
 use Rattle.mq_image.specs.Drives.{IsRead}
 use Rattle.mq_image.specs.Faults.{HasFault}
 use Rattle.mq_image.specs.File.{DriveImage, image_bytes}
-use Rattle.mq_image_run.specs.Runs.{IsRunOf}
-use Rattle.mq_image_run.specs.declared.options.Ending.TheVariants.{Checkpoint}
-use Rattle.mq_image_run.specs.declared.options.RunOptions.{RunOptions}
-use Rattle.mq_image_run.specs.declared.ran.ImageRun.{ImageRun}
+use Rattle.mq_run_laws.specs.Runs.{IsRunOf}
+use Rattle.mq_run_laws.specs.declared.options.Ending.TheVariants.{Checkpoint}
+use Rattle.mq_run_laws.specs.declared.options.RunOptions.{RunOptions}
+use Rattle.mq_run_laws.specs.declared.ran.ImageRun.{ImageRun}
 use Rattle.mq_image_ops.specs.Views.{view_of}
 use Rattle.mq_run_laws.specs.Answers.{AreAnswered, AreCaused}
 use Rattle.mq_run_laws.specs.Cuts.{IsClean, IsCut, IsRung, Starts}

@@ -12,3 +12,7 @@ pub mod Histories
 pub mod HistoryLaws
 pub mod SmallRun
 pub mod ReportLaws
+pub mod Endings
+pub mod Played
+pub mod Refusals
+pub mod Runs

@@ -9,9 +9,9 @@ use Rattle.mq_drive.specs.declared.port.Ports.{Ports}
 use Rattle.mq_run_laws.specs.Histories.{AreOfBytes}
 use Rattle.mq_run_laws.specs.Legal.{IsRun}
 use Rattle.mq_image.specs.File.{DriveImage}
-use Rattle.mq_image_run.specs.Runs.{IsRunOf}
-use Rattle.mq_image_run.specs.declared.options.RunOptions.{RunOptions}
-use Rattle.mq_image_run.specs.declared.ran.ImageRun.{ImageRun}
+use Rattle.mq_run_laws.specs.Runs.{IsRunOf}
+use Rattle.mq_run_laws.specs.declared.options.RunOptions.{RunOptions}
+use Rattle.mq_run_laws.specs.declared.ran.ImageRun.{ImageRun}
 use Rattle.mq_recover.specs.declared.standing.Standing.{Standing}
 use Rattle.mq_report.specs.Lines.{Line}
 use Rattle.mq_report.specs.Orders.{IsToldBefore, Precedes}

@@ -4,7 +4,7 @@ use Rattle.std.specs.Prelude.{if◌then◌else◌, option_map}
 use Rattle.std.proofs.lemmas.Bool.{or_left, or_right}
 use Rattle.mq_command_io.specs.Ending.{EndsWith, IsUnlessFailed}
 use Rattle.mq_command_run.specs.RunsScripts.{are_wanting, is_memory, is_wanting, run_status}
-use Rattle.mq_image_run.specs.declared.ran.ImageRun.{ImageRun}
+use Rattle.mq_run_laws.specs.declared.ran.ImageRun.{ImageRun}
 use Rattle.mq_outside.specs.Outside.{FilesState, SinkState}
 use Rattle.mq_report.specs.declared.line.Told.{Told}
 use Rattle.mq_run_laws.specs.Complete.{HaveWanted}

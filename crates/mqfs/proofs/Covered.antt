@@ -33,11 +33,11 @@ use Rattle.mq_image_ops.specs.Standing as stand
 use Rattle.mq_image_ops.specs.declared.refusal.StandingRefusal.{StandingRefusal}
 use Rattle.mq_image_ops.specs.declared.refusal.StandingRefusal.TheVariants as standing
 use Rattle.mq_image_run.specs.Limits.{AreWithin}
-use Rattle.mq_image_run.specs.Refusals.{RefusesRun}
-use Rattle.mq_image_run.specs.Refusals as refusals
-use Rattle.mq_image_run.specs.Runs.{IsRunOf}
-use Rattle.mq_image_run.specs.declared.options.RunOptions.{RunOptions}
-use Rattle.mq_image_run.specs.declared.ran.ImageRun.{ImageRun}
+use Rattle.mq_run_laws.specs.Refusals.{RefusesRun}
+use Rattle.mq_run_laws.specs.Refusals as refusals
+use Rattle.mq_run_laws.specs.Runs.{IsRunOf}
+use Rattle.mq_run_laws.specs.declared.options.RunOptions.{RunOptions}
+use Rattle.mq_run_laws.specs.declared.ran.ImageRun.{ImageRun}
 use Rattle.mq_outside.specs.Outside.{FilesState, Held, Holds, SinkState, Tells}
 use Rattle.mq_run_laws.specs.Images.{KeepsPromise}
 use Rattle.mq_script.specs.Scripts.{Script}
@@ -227,7 +227,7 @@ module _ (held : Held) (files : FilesState) (told : files.contents ≡ Some held
             volume = keeps.volume;
             scripts = record { bytes = bytes; tells = tells image bytes mid load; read = read; scripts = scripts; hold = hold; few = few };
             for = record { ds = start.ds; top = r.base; stored = start.stored; read = start.read; standing = record { count = start.standing.whole; each = start.standing.each }; laid = start.laid };
-            within = subst (λ (n : ℕ). AreWithin x n) (sym of.base_is) of.within;
+            within = subst (λ (n : ℕ). AreWithin x n) (sym of.on.base_is) of.on.within;
           }
 
     run-status : (r : ImageRun) → ((run_status r ≡ 0) ⊎ (run_status r ≡ 5)) ⊎ IsFailing (run_status r)

@@ -16,7 +16,7 @@ use Rattle.mq_image.specs.Faults.{HasFault}
 use Rattle.mq_image.specs.File.{DriveImage}
 use Rattle.mq_image.specs.declared.fault.FileFault.{FileFault}
 use Rattle.mq_image_run.specs.Limits.{AreWithin, IsFirstAbove}
-use Rattle.mq_image_run.specs.declared.options.RunOptions.{RunOptions}
+use Rattle.mq_run_laws.specs.declared.options.RunOptions.{RunOptions}
 use Rattle.mq_image_ops.specs.Standing.{HasNoVolume, Reads, RefusesDrive, StandsFor}
 use Rattle.mq_image_ops.specs.Views.{view_of}
 use Rattle.mq_outside.specs.Outside.{Held, Tells}

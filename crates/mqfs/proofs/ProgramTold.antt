@@ -22,7 +22,7 @@ use Rattle.mq_command_io.specs.Ending.{IsLoaded, IsNotLoaded, IsNotSaved, IsSave
 use Rattle.mq_command_io.proofs.Ending.{same-others, keeps, keeps-but, saved-others}
 use Rattle.std.specs.List.{Contains}
 use Rattle.mq_image.specs.File.{DriveImage, image_bytes}
-use Rattle.mq_image_run.specs.declared.options.RunOptions.{RunOptions}
+use Rattle.mq_run_laws.specs.declared.options.RunOptions.{RunOptions}
 use Rattle.mq_loose_text.specs.Text as loose_text
 use Rattle.mq_outside.specs.Outside.{FilesState, Held, Holds, OthersSame, Rose, put_name}
 use Rattle.mq_script.specs.Scripts.{Script}

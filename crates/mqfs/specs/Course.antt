@@ -19,8 +19,8 @@ use Rattle.mq_image.specs.Drives.{IsRead}
 use Rattle.mq_image.specs.File.{DriveImage, image_bytes}
 use Rattle.mq_image_ops.specs.Empty.{IsEmptyDrive}
 use Rattle.mq_image_ops.specs.declared.recovery.RecoveredImage.{RecoveredImage}
-use Rattle.mq_image_run.specs.Runs.{IsRunOf}
-use Rattle.mq_image_run.specs.declared.ran.ImageRun.{ImageRun}
+use Rattle.mq_run_laws.specs.Runs.{IsRunOf}
+use Rattle.mq_run_laws.specs.declared.ran.ImageRun.{ImageRun}
 use Rattle.mq_loose_run.specs.Runs.{IsLeftLoose}
 use Rattle.mq_loose_text.specs.Meaning.{IsSetIn}
 use Rattle.mq_loose_text.specs.Text.{IsLooseText}

@@ -4,8 +4,8 @@ use Rattle.mq_command_run.specs.RunsScripts.{AreLoaded, IsReportOf, run_status, 
 use Rattle.mq_command_io.specs.Ending.{IsLoaded, IsSaved}
 use Rattle.mq_image.specs.Drives.{IsRead}
 use Rattle.mq_image.specs.File.{DriveImage, image_bytes}
-use Rattle.mq_image_run.specs.Runs.{IsRunOf}
-use Rattle.mq_image_run.specs.declared.ran.ImageRun.{ImageRun}
+use Rattle.mq_run_laws.specs.Runs.{IsRunOf}
+use Rattle.mq_run_laws.specs.declared.ran.ImageRun.{ImageRun}
 use Rattle.mq_outside.specs.Outside.{FilesState, SinkState, appended}
 use Rattle.mq_run_laws.specs.Complete.{IsComplete}
 use Rattle.mq_run_laws.specs.Images.{KeepsPromise}

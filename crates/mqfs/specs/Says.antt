@@ -12,9 +12,9 @@ use Rattle.mq_command_run.specs.RunsScripts.{Runs}
 use Rattle.mq_command_images.specs.declared.formatting.Numbers.{Numbers}
 use Rattle.mq_command_run.specs.declared.workload.Workload.{Workload}
 use Rattle.mq_command_io.specs.Ending.{SaysOf, SaysOnly}
-use Rattle.mq_image_run.specs.declared.options.Ending.{Ending}
-use Rattle.mq_image_run.specs.declared.options.Ending.TheVariants.{Checkpoint, Cut}
-use Rattle.mq_image_run.specs.declared.options.RunOptions.{RunOptions}
+use Rattle.mq_run_laws.specs.declared.options.Ending.{Ending}
+use Rattle.mq_run_laws.specs.declared.options.Ending.TheVariants.{Checkpoint, Cut}
+use Rattle.mq_run_laws.specs.declared.options.RunOptions.{RunOptions}
 use Rattle.mq_image_ops.specs.declared.ports.Failing.{Failing}
 use Rattle.mq_outside.specs.Outside.{FilesState}
 use Rattle.mq_command_blocks.specs.SaysOfBlocks.{SaysOfBlocks}

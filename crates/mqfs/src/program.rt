@@ -169,8 +169,8 @@ pub fn mqfs<F: Files, K: Sink, R: Threads + Wait + Sync, G: Gate + Sync>(
     // At every status but 4 and 6 the text of that status was said whole.
     ensures said { result ≢ 4
         → result ≢ 6
-        → IsSaid (map string_bytes words.now) (F.state files.old) (F.state files.new) (K.state out.old) (K.state out.new)
-        result }
+        → IsSaid (map string_bytes words.now) (F.state files.old) (F.state files.new) (K.state out.old)
+        (K.state out.new) result }
     // What the files hold decides the status, 4 and 6 aside.
     ensures decided { (a : Asked) (status : ℕ)
         → asked_of (map string_bytes words.now) ≡ Some a
@@ -192,13 +192,15 @@ pub fn mqfs<F: Files, K: Sink, R: Threads + Wait + Sync, G: Gate + Sync>(
     ensures done { (file : List ℕ) (options : BlocksOptions) (save trace : Option (List ℕ))
         → asked_of (map string_bytes words.now) ≡ Some (blocks file options save trace)
         → result ≡ 0
-        → IsDone file options save trace (F.state files.old) (F.state files.new) (K.state out.old) (K.state out.new) }
+        → IsDone file options save trace (F.state files.old) (F.state files.new) (K.state out.old)
+        (K.state out.new) }
     // `run`: at the statuses 0 and 5 the scripts were run, the run keeps its promise, the image that it left is saved, and
     // its report is the output.
     ensures ran { (image : List ℕ) (scripts : List (List ℕ)) (options : RunFlags)
         → asked_of (map string_bytes words.now) ≡ Some (run image scripts options)
         → (result ≡ 0) ⊎ (result ≡ 5)
-        → IsRan image scripts options result (F.state files.old) (F.state files.new) (K.state out.old) (K.state out.new) }
+        → IsRan image scripts options result (F.state files.old) (F.state files.new) (K.state out.old)
+        (K.state out.new) }
     // `run` where neither a cut nor a failing command is asked for, of scripts that are read, not more than queues, on an
     // image within the limits on which a volume stands: the status is 0, 4 and 6 aside, and then the run is complete.
     ensures complete { (image : List ℕ) (scripts : List (List ℕ)) (options : RunFlags)
@@ -207,26 +209,30 @@ pub fn mqfs<F: Files, K: Sink, R: Threads + Wait + Sync, G: Gate + Sync>(
         → options.fail ≡ None
         → IsRunnable image scripts (F.state files.old).contents
         → ((result ≡ 0)
-        × IsRanWhole image scripts options (F.state files.old) (F.state files.new) (K.state out.old) (K.state out.new))
+        × IsRanWhole image scripts options (F.state files.old) (F.state files.new) (K.state out.old)
+        (K.state out.new))
         ⊎ ((result ≡ 4) ⊎ (result ≡ 6)) }
     // `gen`: at the status 0 the workload was played on an empty file system, the image that a cut of the power left is
     // saved where a name is given for it, and the output gives how much the tree then has.
     ensures played { (seed threads groups : ℕ) (save : Option (List ℕ))
         → asked_of (map string_bytes words.now) ≡ Some (gen seed threads groups save)
         → result ≡ 0
-        → IsPlayed (asked_workload seed threads groups) save (F.state files.old) (F.state files.new) (K.state out.old) (K.state out.new) }
+        → IsPlayed (asked_workload seed threads groups) save (F.state files.old) (F.state files.new)
+        (K.state out.old) (K.state out.new) }
     // `replicate`: at the status 0 the lines of the text that the file holds were fed to a replica, its image is saved
     // where a name is given for it, and the output is their number and what stands after all of them.
     ensures replicated { (file : List ℕ) (seed : Option ℕ) (save : Option (List ℕ))
         → asked_of (map string_bytes words.now) ≡ Some (replicate file seed save)
         → result ≡ 0
-        → IsReplicated file save (F.state files.old) (F.state files.new) (K.state out.old) (K.state out.new) }
+        → IsReplicated file save (F.state files.old) (F.state files.new) (K.state out.old)
+        (K.state out.new) }
     // `loose`: at the status 0 the lines of the text that the file holds were run until the cut, the image that it left is
     // saved where a name is given for it, and the output is the settled numbers, the image's set, and what that leaves.
     ensures loosed { (file : List ℕ) (cut pick : Option ℕ) (save : Option (List ℕ))
         → asked_of (map string_bytes words.now) ≡ Some (loose file cut pick save)
         → result ≡ 0
-        → IsLoosed file cut save (F.state files.old) (F.state files.new) (K.state out.old) (K.state out.new) }
+        → IsLoosed file cut save (F.state files.old) (F.state files.new) (K.state out.old)
+        (K.state out.new) }
     // Of every interleaving of queue events and every power cut between two of them.
     ensures journal { EveryInterleavingIsRecovered }
     // The words are no command.
@@ -239,14 +245,16 @@ pub fn mqfs<F: Files, K: Sink, R: Threads + Wait + Sync, G: Gate + Sync>(
     // are those of `run`, and a script is refused, or there are more than queues.
     ensures refused { result ≡ 2
         → IsRefusedText (map string_bytes words.now) (F.state files.old) (K.state out.old) (K.state out.new)
-        ⊎ (IsRefusedLoose (map string_bytes words.now) (F.state files.old) (K.state out.old) (K.state out.new)
-        ⊎ (IsMisreadTrace (map string_bytes words.now) (F.state files.old) (K.state out.old) (K.state out.new)
-        ⊎ IsEndedRun 2 (map string_bytes words.now) (F.state files.old) (F.state files.new) (K.state out.old)
-        (K.state out.new))) }
+        ⊎ (IsRefusedLoose (map string_bytes words.now) (F.state files.old) (K.state out.old)
+        (K.state out.new)
+        ⊎ (IsMisreadTrace (map string_bytes words.now) (F.state files.old) (K.state out.old)
+        (K.state out.new)
+        ⊎ IsEndedRun 2 (map string_bytes words.now) (F.state files.old) (F.state files.new)
+        (K.state out.old) (K.state out.new))) }
     // The words are those of `run`, and the command that was to fail was executed.
     ensures failed { result ≡ 5
-        → IsEndedRun 5 (map string_bytes words.now) (F.state files.old) (F.state files.new) (K.state out.old)
-        (K.state out.new) }
+        → IsEndedRun 5 (map string_bytes words.now) (F.state files.old) (F.state files.new)
+        (K.state out.old) (K.state out.new) }
     // A file or the output failed, or a file was too long.
     ensures fault { result ≡ 4
         → Rose (F.state files.old).faults (F.state files.new).faults
@@ -257,11 +265,12 @@ pub fn mqfs<F: Files, K: Sink, R: Threads + Wait + Sync, G: Gate + Sync>(
         × ((K.state out.new).faults ≡ (K.state out.old).faults) }
     // What failed, what the names then hold, and what the output is.
     ensures fault_at { result ≡ 4
-        → IsFault (map string_bytes words.now) (F.state files.old) (F.state files.new) (K.state out.old) (K.state out.new) }
+        → IsFault (map string_bytes words.now) (F.state files.old) (F.state files.new) (K.state out.old)
+        (K.state out.new) }
     // Memory ran out: what the names then hold, and what the output is.
     ensures memory { result ≡ 6
-        → IsOutOfMemory (map string_bytes words.now) (F.state files.old) (F.state files.new) (K.state out.old)
-        (K.state out.new) }
+        → IsOutOfMemory (map string_bytes words.now) (F.state files.old) (F.state files.new)
+        (K.state out.old) (K.state out.new) }
     // At every status: which names were loaded and saved, one after another, and where that ended.
     ensures course { (a : Asked)
         → asked_of (map string_bytes words.now) ≡ Some a
@@ -269,7 +278,8 @@ pub fn mqfs<F: Files, K: Sink, R: Threads + Wait + Sync, G: Gate + Sync>(
         × (text : List ℕ)
         × Course a (F.state files.old) (F.state files.new) status text
         × EndsWith status text result (K.state out.old) (K.state out.new) }
-    ensures takes { result ≢ 4 → result ≢ 6 → TakesFor (map string_bytes words.now) (F.state files.old) (F.state files.new) }
+    ensures takes { result ≢ 4 → result ≢ 6 → TakesFor (map string_bytes words.now) (F.state files.old)
+        (F.state files.new) }
     // No name changes but those that the words save, and none at the statuses 1, 2 and 3.
     ensures names { KeepsNames (map string_bytes words.now) (F.state files.old) (F.state files.new) }
     ensures contents { (result ≡ 1) ⊎ ((result ≡ 2) ⊎ (result ≡ 3))

@@ -1,21 +1,22 @@
 // Events on the base.
 ghost use Rattle.std.specs.Prelude.{◌≡◌, ◌<◌, ◌↔◌, ℕ, IsTrue, MatchOption, Some, None};
+ghost use Rattle.mq_blocks.specs.Drive.{after_store_base};
 ghost use Rattle.mq_blocks.specs.Geometry.{homes_of, zone_of, home_lba};
 ghost use Rattle.mq_ledger.specs.Plain.{plain};
 ghost use Rattle.mq_ledger.specs.State.{port_of};
 ghost use Rattle.mq_core.specs.Answers.{Answers};
 ghost use Rattle.mq_core.specs.Bases.{due_at, is_due, home_of, writes_none, post_none, Holds};
 ghost use Rattle.mq_core.specs.Events.{MayStoreBase};
-ghost use Rattle.mq_core.specs.Machine.{IsAllowed, happens, StoreBase, FlushBase};
+ghost use Rattle.mq_core.specs.Parts.{AreHeld, parts, whole};
 ghost use Rattle.mq_core.specs.Within.{IsWithin};
 
-use super::Core;
+use super::parts::Parts;
 use crate::{CoreRefusal, PlainCommand, PlainPort};
 use mq_blocks::{BlockNo, Geometry, TxNo};
-use mq_ledger::Content;
+use mq_ledger::{Content, Ledger};
 
 /// The home block that a command writes, if it writes one.
-pub fn home_block(geometry: Geometry, command: &PlainCommand) -> Option<BlockNo>
+fn home_block(geometry: Geometry, command: &PlainCommand) -> Option<BlockNo>
     ensures { result ≡ home_of geometry command.now }
 {
     let areas = geometry.queues() * geometry.area();
@@ -25,12 +26,13 @@ pub fn home_block(geometry: Geometry, command: &PlainCommand) -> Option<BlockNo>
     Some(BlockNo(command.lba.0 - areas))
 }
 
-impl Core {
+impl<'a> Parts<'a> {
     /// What stands on a block in the map after the base, where no number above it and up to the front
     /// changed the block.
-    fn due(&self, base: TxNo, block: BlockNo) -> Option<&Content>
-        ensures { MatchOption result (due_at self.now base block ≡ None)
-            (λ c. due_at self.now base block ≡ Some c.now) }
+    fn due(self, base: TxNo, block: BlockNo) -> Option<&'a Content>
+        requires { AreHeld self.ledger.now.front (whole self) }
+        ensures { MatchOption result (due_at (whole self.entry) base block ≡ None)
+            (λ c. due_at (whole self.entry) base block ≡ Some c.now) }
     {
         if block.0 >= self.ledger.geometry().homes() {
             return None;
@@ -41,8 +43,9 @@ impl Core {
         self.ledger.settled_content(block)
     }
 
-    fn is_due(&self, base: TxNo, block: Option<BlockNo>) -> bool
-        ensures { result ≡ is_due self.now base block }
+    fn is_due(self, base: TxNo, block: Option<BlockNo>) -> bool
+        requires { AreHeld self.ledger.now.front (whole self) }
+        ensures { result ≡ is_due (whole self.entry) base block }
     {
         match block {
             Some(block) => self.due(base, block).is_some(),
@@ -51,8 +54,9 @@ impl Core {
     }
 
     /// Whether none of these commands writes a block that is due.
-    fn writes_none(&self, base: TxNo, commands: &[PlainCommand]) -> bool
-        ensures { result ≡ writes_none self.now base commands.now }
+    fn writes_none(self, base: TxNo, commands: &[PlainCommand]) -> bool
+        requires { AreHeld self.ledger.now.front (whole self) }
+        ensures { result ≡ writes_none (whole self.entry) base commands.now }
     {
         let geometry = self.ledger.geometry();
         for command in commands {
@@ -64,10 +68,11 @@ impl Core {
     }
 
     /// Whether no posted command writes a block that is due.
-    fn posts_none(&self, base: TxNo) -> bool
-        ensures { result ≡ post_none self.now base self.now.ports }
+    fn posts_none(self, base: TxNo) -> bool
+        requires { AreHeld self.ledger.now.front (whole self) }
+        ensures { result ≡ post_none (whole self.entry) base (whole self.entry).ports }
     {
-        for port in &self.ports {
+        for port in self.ports {
             if !self.writes_none(base, port.posted()) {
                 return false;
             }
@@ -76,25 +81,27 @@ impl Core {
     }
 
     /// The port of a home block.
-    fn home_port(&self, block: BlockNo) -> &PlainPort
-        requires { block < homes_of self.now.geometry }
-        ensures is { result.now ≡ port_of self.now (zone_of self.now.geometry block) }
-        ensures within { IsWithin result.now (home_lba self.now.geometry block) }
+    fn home_port(self, block: BlockNo) -> &'a PlainPort
+        requires held { AreHeld self.ledger.now.front (whole self) }
+        requires block { block < homes_of (whole self).geometry }
+        ensures is { result.now ≡ port_of (whole self.entry) (zone_of (whole self.entry).geometry block) }
+        ensures within { IsWithin result.now (home_lba (whole self.entry).geometry block) }
     {
         match self.ledger.geometry().zone_of(block) {
             Some(queue) => &self.ports[queue.0 as usize],
-            None => &self.root,
+            None => self.root,
         }
     }
 
     /// Whether a block holds at home what is due there.
-    fn is_home(&self, base: TxNo, block: BlockNo) -> bool
-        requires { block < homes_of self.now.geometry }
+    fn is_home(self, base: TxNo, block: BlockNo) -> bool
+        requires held { AreHeld self.ledger.now.front (whole self) }
+        requires block { block < homes_of (whole self).geometry }
         ensures { IsTrue result
             ↔ ((content : _)
-            → due_at self.now base block ≡ Some content
-            → Holds (port_of self.now (zone_of self.now.geometry block))
-            (home_lba self.now.geometry block) content) }
+            → due_at (whole self.entry) base block ≡ Some content
+            → Holds (port_of (whole self.entry) (zone_of (whole self.entry).geometry block))
+            (home_lba (whole self.entry).geometry block) content) }
     {
         let Some(content) = self.due(base, block) else {
             return true;
@@ -104,13 +111,14 @@ impl Core {
     }
 
     /// Whether each block holds at home what is due there.
-    fn are_home(&self, base: TxNo) -> bool
+    fn are_home(self, base: TxNo) -> bool
+        requires { AreHeld self.ledger.now.front (whole self) }
         ensures { IsTrue result
             ↔ ((x : ℕ) (content : _)
-            → x < homes_of self.now.geometry
-            → due_at self.now base x ≡ Some content
-            → Holds (port_of self.now (zone_of self.now.geometry x))
-            (home_lba self.now.geometry x) content) }
+            → x < homes_of (whole self.entry).geometry
+            → due_at (whole self.entry) base x ≡ Some content
+            → Holds (port_of (whole self.entry) (zone_of (whole self.entry).geometry x))
+            (home_lba (whole self.entry).geometry x) content) }
     {
         for block in 0..self.ledger.geometry().homes() {
             if !self.is_home(base, BlockNo(block)) {
@@ -121,8 +129,9 @@ impl Core {
     }
 
     /// Whether a base may be stored.
-    fn may_store_base(&self, base: TxNo) -> bool
-        ensures { IsTrue result ↔ MayStoreBase plain self.now base }
+    fn may_store_base(self, base: TxNo) -> bool
+        requires { AreHeld self.ledger.now.front (whole self) }
+        ensures { IsTrue result ↔ MayStoreBase plain (whole self.entry) base }
     {
         if base.0 < self.root.stored_base() {
             return false;
@@ -135,23 +144,27 @@ impl Core {
         }
         self.are_home(base)
     }
+}
 
-    /// The base is stored: recovery needs no transaction up to it.
-    pub fn store_base(&mut self, base: TxNo) -> Result<(), CoreRefusal>
-        ensures { Answers (IsAllowed plain (StoreBase base) self.old)
-            (happens plain (StoreBase base) self.old) self.old self.new result }
-    {
-        if !self.may_store_base(base) {
-            return Err(CoreRefusal::NotAllowed { index: 0 });
-        }
-        self.root.store_base(base);
-        Ok(())
+/// The base is stored: recovery needs no transaction up to it.
+pub fn store_base(
+    ledger: &Ledger,
+    ports: &[PlainPort],
+    root: &mut PlainPort,
+    base: TxNo,
+) -> Result<(), CoreRefusal>
+    requires { AreHeld ledger.now.front (parts ledger.now ports.now root.old) }
+    ensures { Answers (MayStoreBase plain (parts ledger.now ports.now root.old) base)
+        (after_store_base root.old base) root.old root.new result }
+{
+    let now = Parts {
+        ledger,
+        ports,
+        root: &*root,
+    };
+    if !now.may_store_base(base) {
+        return Err(CoreRefusal::NotAllowed { index: 0 });
     }
-
-    /// The stored base becomes certain.
-    pub fn flush_base(&mut self)
-        ensures { self.new ≡ happens plain FlushBase self.old }
-    {
-        self.root.flush();
-    }
+    root.store_base(base);
+    Ok(())
 }

@@ -1,23 +1,25 @@
 // Events on home blocks and the base.
-ghost use Rattle.std.specs.Prelude.{◌≡◌, ◌↔◌, ◌<◌, ◌++◌, ◌∷◌, [], IfOk, OnOk, OnErr, IsTrue, IsSome, length, filter, not, reverse, nat_eq};
-ghost use Rattle.mq_blocks.specs.Geometry.{homes_of, zone_of, home_lba};
+ghost use Rattle.std.specs.Prelude.{◌≡◌, ◌↔◌, ◌<◌, ◌++◌, ◌∷◌, [], IfOk, OnOk, OnErr, IsTrue, IsSome, true, filter, not, reverse, nat_eq};
+ghost use Rattle.mq_blocks.specs.Geometry.{homes_of, zone_of};
 ghost use Rattle.mq_blocks.specs.Journal.{is_among};
 ghost use Rattle.mq_ledger.specs.Plain.{plain};
 ghost use Rattle.mq_ledger.specs.State.{start_map};
 ghost use Rattle.mq_ledger.specs.History.{map_after};
 ghost use Rattle.mq_core.specs.Answers.{Answers};
-ghost use Rattle.mq_core.specs.Events.{MayWriteHome, begin_home, end_home, content_at};
+ghost use Rattle.mq_blocks.specs.Blocks.{content};
+ghost use Rattle.mq_core.specs.Events.{MayWriteHome, begin_home, end_home};
 ghost use Rattle.mq_core.specs.Homes.{ports_after, root_after, IsIn};
-ghost use Rattle.mq_core.specs.Machine.{IsAllowed, happens, WriteHome, HomeDone};
+ghost use Rattle.mq_core.specs.Machine.{IsAllowed, happens, WriteHome};
+ghost use Rattle.mq_core.specs.Parts.{home_begun, home_ended, under};
 
 use super::Core;
 use crate::{CoreRefusal, PlainPort};
 use mq_blocks::{BlockNo, Geometry, OutOfMemory};
-use mq_ledger::{Content, copy_content};
+use mq_ledger::{Content, Ledger, copy_content};
 use std::alloc::Global;
 
 /// Begins a home write of a block on its port, and counts it as under way.
-pub fn begin_write(
+fn begin_write(
     ports: &mut Vec<PlainPort>,
     root: &mut PlainPort,
     writing: &mut Vec<BlockNo>,
@@ -46,7 +48,7 @@ pub fn begin_write(
 }
 
 /// Ends the last home write of a block on its port, with this content.
-pub fn end_write(
+fn end_write(
     ports: &mut Vec<PlainPort>,
     root: &mut PlainPort,
     geometry: Geometry,
@@ -65,14 +67,14 @@ pub fn end_write(
     }
 }
 
-pub fn is_same(one: BlockNo, other: BlockNo) -> bool
+fn is_same(one: BlockNo, other: BlockNo) -> bool
     ensures { result ≡ nat_eq one other }
 {
     one.0 == other.0
 }
 
 /// Whether a block is one of these.
-pub fn holds_block(blocks: &[BlockNo], block: BlockNo) -> bool
+fn holds_block(blocks: &[BlockNo], block: BlockNo) -> bool
     ensures { result ≡ is_among block blocks.now }
 {
     for other in blocks {
@@ -84,10 +86,67 @@ pub fn holds_block(blocks: &[BlockNo], block: BlockNo) -> bool
 }
 
 /// Removes a block from a list, wherever it stands.
-pub fn drop_block(blocks: &mut Vec<BlockNo>, block: BlockNo)
+fn drop_block(blocks: &mut Vec<BlockNo>, block: BlockNo)
     ensures { blocks.new.items ≡ filter (λ x. not (nat_eq x block)) blocks.old.items }
 {
     blocks.retain(|other| !is_same(*other, block));
+}
+
+/// A copy of what stands on a home block of the map.
+fn home_content(alloc: Global, ledger: &Ledger, block: BlockNo) -> Result<Content, OutOfMemory>
+    requires block { block < homes_of ledger.now.geometry }
+    requires there { IsSome (map_after (start_map ledger.now.start) ledger.now.history block) }
+    ensures { IfOk result (λ c. c ≡ content (map_after (start_map ledger.now.start) ledger.now.history block)) }
+{
+    copy_content(alloc, ledger.content(block).unwrap())
+}
+
+/// A home write of what stands on a block of the map begins.
+pub fn write_home(
+    alloc: Global,
+    ledger: &Ledger,
+    ports: &mut Vec<PlainPort>,
+    root: &mut PlainPort,
+    writing: &mut Vec<BlockNo>,
+    block: BlockNo,
+) -> Result<(), OutOfMemory>
+    requires block { block < homes_of ledger.now.geometry }
+    requires there { IsSome (map_after (start_map ledger.now.start) ledger.now.history block) }
+    requires port { IsIn ledger.now.geometry block ports.old.items root.old }
+    ensures begun { OnOk result (under ledger.now ports.new.items root.new writing.new.items
+        ≡ home_begun ledger.now ports.old.items root.old writing.old.items block) }
+    ensures refused { OnErr result (under ledger.now ports.new.items root.new writing.new.items
+        ≡ under ledger.now ports.old.items root.old writing.old.items) }
+{
+    let content = home_content(alloc, ledger, block)?;
+    begin_write(ports, root, writing, ledger.geometry(), block, content)
+}
+
+/// The last home write of the block that is under way ends with success.
+pub fn home_done(
+    alloc: Global,
+    ledger: &Ledger,
+    ports: &mut Vec<PlainPort>,
+    root: &mut PlainPort,
+    writing: &mut Vec<BlockNo>,
+    block: BlockNo,
+) -> Result<(), CoreRefusal>
+    requires { is_among block (reverse writing.old.items) ≡ true
+        → (block < homes_of ledger.now.geometry)
+        × IsSome (map_after (start_map ledger.now.start) ledger.now.history block)
+        × IsIn ledger.now.geometry block ports.old.items root.old }
+    ensures { Answers (is_among block (reverse writing.old.items) ≡ true)
+        (home_ended ledger.now ports.old.items root.old writing.old.items block)
+        (under ledger.now ports.old.items root.old writing.old.items)
+        (under ledger.now ports.new.items root.new writing.new.items) result }
+{
+    if !holds_block(writing, block) {
+        return Err(CoreRefusal::NotAllowed { index: 0 });
+    }
+    let content = home_content(alloc, ledger, block)?;
+    end_write(ports, root, ledger.geometry(), block, content);
+    drop_block(writing, block);
+    Ok(())
 }
 
 impl Core {
@@ -108,15 +167,6 @@ impl Core {
         self.ledger.is_logged_last(block)
     }
 
-    /// A copy of what stands on a home block of the map.
-    fn home_content(&self, alloc: Global, block: BlockNo) -> Result<Content, OutOfMemory>
-        requires block { block < homes_of self.now.geometry }
-        requires there { IsSome (map_after (start_map self.now.start) self.now.history block) }
-        ensures { IfOk result (λ c. c ≡ content_at self.now block) }
-    {
-        copy_content(alloc, self.ledger.content(block).unwrap())
-    }
-
     /// A home write of the block's content begins.
     pub fn write_home(&mut self, alloc: Global, block: BlockNo) -> Result<(), CoreRefusal>
         ensures { Answers (IsAllowed plain (WriteHome block) self.old)
@@ -125,31 +175,14 @@ impl Core {
         if !self.may_write_home(block) {
             return Err(CoreRefusal::NotAllowed { index: 0 });
         }
-        let content = self.home_content(alloc, block)?;
-        let geometry = self.ledger.geometry();
-        begin_write(
+        write_home(
+            alloc,
+            &self.ledger,
             &mut self.ports,
             &mut self.root,
             &mut self.writing,
-            geometry,
             block,
-            content,
         )?;
-        Ok(())
-    }
-
-    /// The last home write of the block that is under way ends with success.
-    pub fn home_done(&mut self, alloc: Global, block: BlockNo) -> Result<(), CoreRefusal>
-        ensures { Answers (IsAllowed plain (HomeDone block) self.old)
-            (happens plain (HomeDone block) self.old) self.old self.new result }
-    {
-        if !holds_block(&self.writing, block) {
-            return Err(CoreRefusal::NotAllowed { index: 0 });
-        }
-        let content = self.home_content(alloc, block)?;
-        let geometry = self.ledger.geometry();
-        end_write(&mut self.ports, &mut self.root, geometry, block, content);
-        drop_block(&mut self.writing, block);
         Ok(())
     }
 }

@@ -2,18 +2,17 @@
 ghost use Rattle.std.specs.Prelude.{◌≡◌, ◌<◌, ◌≤◌, ◌↔◌, ◌+◌, ◌&&◌, length, slice_index_or, IsTrue, filter, not, nat_eq, nat_lt};
 ghost use Rattle.mq_blocks.specs.Geometry.{homes_of};
 ghost use Rattle.mq_ledger.specs.History.{last};
-ghost use Rattle.mq_ledger.specs.KnownJournal.{IsTx};
 ghost use Rattle.mq_ledger.specs.Plain.{plain};
-ghost use Rattle.mq_ledger.specs.State.{from_at, front_of, port_at};
+ghost use Rattle.mq_ledger.specs.State.{front_of};
 ghost use Rattle.mq_core.specs.Answers.{Answers};
-ghost use Rattle.mq_core.specs.Events.{HasRoom, us_of};
 ghost use Rattle.mq_blocks.specs.Journal.{is_among};
 ghost use Rattle.mq_core.specs.Machine.{IsAllowed, happens, Draw, Clear, Acknowledge};
 
 use super::Core;
+use super::parts::Parts;
 use crate::CoreRefusal;
 use mq_blocks::{BlockNo, QueueNo, TxNo};
-use mq_ledger::{Ledger, Tx, descriptor_blocks};
+use mq_ledger::{Ledger, Tx};
 
 /// Whether this number changed a block last; false for a block that is no home block.
 pub fn is_last_change(ledger: &Ledger, block: BlockNo, number: TxNo) -> bool
@@ -41,29 +40,6 @@ pub fn drop_changed(ledger: &Ledger, blocks: &mut Vec<BlockNo>, number: TxNo)
 }
 
 impl Core {
-    /// Whether the entries of a transaction fit into ring and area of its queue.
-    fn has_room(&self, tx: &Tx) -> bool
-        requires { IsTx self.now.geometry tx.now }
-        ensures { IsTrue result
-            ↔ HasRoom self.now.geometry (from_at self.now.starts tx.now.queue) self.now.root.base
-            (us_of self.now tx.now.queue) tx.now (port_at self.now.ports tx.now.queue) }
-    {
-        let port = &self.ports[tx.queue.0 as usize];
-        let end = self.ledger.end(tx.queue);
-        let place = self.ledger.next_place(tx.queue);
-        let covered = self.ledger.covered_place(tx.queue, TxNo(self.root.base()));
-        let logged = &tx.logged;
-        let direct = &tx.direct;
-        let copies = logged.0.len() as u64;
-        let blocks = descriptor_blocks(tx);
-        let entries = copies + direct.0.len() as u64 + blocks;
-        port.is_rung_to(end)
-            && entries <= port.room()
-            && place + copies + blocks <= covered + u64::from(self.ledger.geometry().area())
-            && place + copies + blocks <= 1 << 62
-            && end + entries <= 1 << 63
-    }
-
     /// Whether a transaction may be drawn.
     fn may_draw(&self, tx: &Tx) -> bool
         ensures { IsTrue result ↔ IsAllowed plain (Draw tx.now) self.now }
@@ -71,7 +47,12 @@ impl Core {
         if !self.ledger.may_draw(tx, TxNo(self.root.base())) {
             return false;
         }
-        if !self.has_room(tx) {
+        let now = Parts {
+            ledger: &self.ledger,
+            ports: &self.ports,
+            root: &self.root,
+        };
+        if !now.has_room(tx) {
             return false;
         }
         is_marked(&self.marks, tx.queue, tx.number)

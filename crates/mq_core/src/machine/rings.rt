@@ -1,128 +1,181 @@
 // Events on the ring of a queue.
-ghost use Rattle.std.specs.Prelude.{◌≡◌, ◌<◌};
-ghost use Rattle.mq_ledger.specs.Plain.{plain};
-ghost use Rattle.mq_core.specs.Answers.{Answers};
-ghost use Rattle.mq_core.specs.Events.{flush};
-ghost use Rattle.mq_core.specs.Machine.{IsAllowed, happens, Stage, Flush, Ring, Complete, FailCommand, StoreHead, FlushHead};
+ghost use Rattle.std.specs.Prelude.{◌≡◌, ◌<◌, ◌≤◌, OnErr, OnOk, IfNone, IfSome, slice_set};
+ghost use Rattle.mq_blocks.specs.Drive.{after_flush, after_ring, after_stage, after_store_head, staged_end};
+ghost use Rattle.mq_ledger.specs.Items.{end_of};
+ghost use Rattle.mq_ledger.specs.State.{from_at, port_at};
+ghost use Rattle.mq_ledger.specs.History.{of_queue};
+ghost use Rattle.mq_core.specs.Events.{MayEnd, MayFlush, MayRing, MayStage, MayStoreHead, complete_side, fail_side};
+ghost use Rattle.mq_core.specs.Parts.{Always, AreSides, QueueAnswers};
+ghost use Rattle.mq_core.specs.Settled.{settled};
 
-use super::Core;
 use super::front::settle_all;
-use crate::CoreRefusal;
-use mq_blocks::QueueNo;
-use mq_ledger::Staged;
-use std::alloc::Global;
+use crate::{CoreRefusal, PlainPort};
+use mq_blocks::{OutOfMemory, QueueNo};
+use mq_ledger::{Ledger, Staged};
 
-impl Core {
-    /// The next entry of the queue's drawn transaction is staged.
-    pub fn stage(&mut self, alloc: Global, queue: QueueNo) -> Result<(), CoreRefusal>
-        ensures { Answers (IsAllowed plain (Stage queue) self.old)
-            (happens plain (Stage queue) self.old) self.old self.new result }
-    {
-        let at = queue.0 as usize;
-        if at >= self.ports.len() {
-            return Err(CoreRefusal::NotAllowed { index: 0 });
-        }
-        let count = self.ports[at].staged_end();
-        if count >= self.ledger.end(queue) {
-            return Err(CoreRefusal::NotAllowed { index: 0 });
-        }
-        let Staged {
-            entry,
-            tx,
-            lba,
-            block,
-        } = self.ledger.entry(alloc, queue, count)?;
-        self.ports[at].stage(entry, tx, lba, block)?;
-        Ok(())
+/// The count of the next entry of the queue that may be staged.
+pub fn next_count(ledger: &Ledger, ports: &[PlainPort], queue: QueueNo) -> Option<u64>
+    requires { AreSides ledger.now ports.now }
+    ensures none { IfNone result ((queue < ledger.now.geometry.queues)
+        × MayStage (from_at ledger.now.starts queue) (of_queue queue ledger.now.history)
+        (port_at ports.now queue)
+        → ⊥) }
+    ensures some { IfSome result (λ count. (queue < ledger.now.geometry.queues)
+        × (count ≡ staged_end (port_at ports.now queue))
+        × (from_at ledger.now.starts queue ≤ count)
+        × (count < end_of (from_at ledger.now.starts queue) (of_queue queue ledger.now.history))) }
+{
+    let at = queue.0 as usize;
+    if at >= ports.len() {
+        return None;
     }
+    let count = ports[at].staged_end();
+    if count >= ledger.end(queue) {
+        return None;
+    }
+    Some(count)
+}
 
-    /// What is staged on the queue, and its stored head, become certain.
-    fn flush_port(&mut self, queue: QueueNo)
-        requires { queue < self.old.geometry.queues }
-        ensures { self.new ≡ flush queue self.old }
-    {
-        self.ports[queue.0 as usize].flush();
-        settle_all(&mut self.ledger, &self.ports);
-    }
+/// The next entry of a queue is staged.
+pub fn stage(
+    ledger: &Ledger,
+    ports: &mut Vec<PlainPort>,
+    queue: QueueNo,
+    staged: Staged,
+) -> Result<(), OutOfMemory>
+    requires queue { queue < ledger.now.geometry.queues }
+    requires sides { AreSides ledger.now ports.old.items }
+    ensures ok { OnOk result (ports.new.items ≡ slice_set ports.old.items queue
+        (after_stage (port_at ports.old.items queue) staged.entry staged.tx staged.lba staged.block)) }
+    ensures refused { OnErr result (ports.new.items ≡ ports.old.items) }
+{
+    ports[queue.0 as usize].stage(staged.entry, staged.tx, staged.lba, staged.block)?;
+    Ok(())
+}
 
-    /// What is staged on the queue becomes certain.
-    pub fn flush(&mut self, queue: QueueNo) -> Result<(), CoreRefusal>
-        ensures { Answers (IsAllowed plain (Flush queue) self.old)
-            (happens plain (Flush queue) self.old) self.old self.new result }
-    {
-        let at = queue.0 as usize;
-        if at >= self.ports.len() {
-            return Err(CoreRefusal::NotAllowed { index: 0 });
-        }
-        let end = self.ledger.end(queue);
-        if !self.ports[at].is_staged_to(end) {
-            return Err(CoreRefusal::NotAllowed { index: 0 });
-        }
-        self.flush_port(queue);
-        Ok(())
-    }
+/// What is staged on the queue, and its stored head, become certain.
+fn flush_port(ledger: &mut Ledger, ports: &mut Vec<PlainPort>, queue: QueueNo)
+    requires queue { queue < ledger.old.geometry.queues }
+    requires sides { AreSides ledger.old ports.old.items }
+    ensures ports { ports.new.items ≡ slice_set ports.old.items queue
+        (after_flush (port_at ports.old.items queue)) }
+    ensures ledger { ledger.new ≡ settled ports.new.items ledger.old }
+{
+    ports[queue.0 as usize].flush();
+    settle_all(ledger, ports);
+}
 
-    /// What is staged and flushed on the queue is posted.
-    pub fn ring(&mut self, queue: QueueNo) -> Result<(), CoreRefusal>
-        ensures { Answers (IsAllowed plain (Ring queue) self.old)
-            (happens plain (Ring queue) self.old) self.old self.new result }
-    {
-        let at = queue.0 as usize;
-        if at >= self.ports.len() {
-            return Err(CoreRefusal::NotAllowed { index: 0 });
-        }
-        let end = self.ledger.end(queue);
-        self.ports[at].ring(end)
+/// What is staged on the queue becomes certain.
+pub fn flush(
+    ledger: &mut Ledger,
+    ports: &mut Vec<PlainPort>,
+    queue: QueueNo,
+) -> Result<(), CoreRefusal>
+    requires { AreSides ledger.old ports.old.items }
+    ensures ports { QueueAnswers ledger.old queue
+        (MayFlush (from_at ledger.old.starts queue) (of_queue queue ledger.old.history)) after_flush
+        ports.old.items ports.new.items result }
+    ensures ledger { ledger.new ≡ settled ports.new.items ledger.old }
+{
+    let at = queue.0 as usize;
+    if at >= ports.len() {
+        return Err(CoreRefusal::NotAllowed { index: 0 });
     }
+    let end = ledger.end(queue);
+    if !ports[at].is_staged_to(end) {
+        return Err(CoreRefusal::NotAllowed { index: 0 });
+    }
+    flush_port(ledger, ports, queue);
+    Ok(())
+}
 
-    /// The posted command of this count ends with success.
-    pub fn complete(&mut self, queue: QueueNo, count: u64) -> Result<(), CoreRefusal>
-        ensures { Answers (IsAllowed plain (Complete queue count) self.old)
-            (happens plain (Complete queue count) self.old) self.old self.new result }
-    {
-        let at = queue.0 as usize;
-        if at >= self.ports.len() {
-            return Err(CoreRefusal::NotAllowed { index: 0 });
-        }
-        self.ports[at].complete(count)
+/// What is staged and flushed on the queue is posted.
+pub fn ring(ledger: &Ledger, ports: &mut Vec<PlainPort>, queue: QueueNo) -> Result<(), CoreRefusal>
+    requires { AreSides ledger.now ports.old.items }
+    ensures { QueueAnswers ledger.now queue
+        (MayRing (from_at ledger.now.starts queue) (of_queue queue ledger.now.history)) after_ring
+        ports.old.items ports.new.items result }
+{
+    let at = queue.0 as usize;
+    if at >= ports.len() {
+        return Err(CoreRefusal::NotAllowed { index: 0 });
     }
+    let end = ledger.end(queue);
+    ports[at].ring(end)
+}
 
-    /// The posted command of this count ends with an error.
-    pub fn fail_command(&mut self, queue: QueueNo, count: u64) -> Result<(), CoreRefusal>
-        ensures { Answers (IsAllowed plain (FailCommand queue count) self.old)
-            (happens plain (FailCommand queue count) self.old) self.old self.new result }
-    {
-        let at = queue.0 as usize;
-        if at >= self.ports.len() {
-            return Err(CoreRefusal::NotAllowed { index: 0 });
-        }
-        self.ports[at].fail(count)
+/// The posted command of this count ends with success.
+pub fn complete(
+    ledger: &Ledger,
+    ports: &mut Vec<PlainPort>,
+    queue: QueueNo,
+    count: u64,
+) -> Result<(), CoreRefusal>
+    requires { AreSides ledger.now ports.old.items }
+    ensures { QueueAnswers ledger.now queue (MayEnd count) (complete_side count) ports.old.items
+        ports.new.items result }
+{
+    let at = queue.0 as usize;
+    if at >= ports.len() {
+        return Err(CoreRefusal::NotAllowed { index: 0 });
     }
+    ports[at].complete(count)
+}
 
-    /// The queue's head is stored.
-    pub fn store_head(&mut self, queue: QueueNo, head: u64) -> Result<(), CoreRefusal>
-        ensures { Answers (IsAllowed plain (StoreHead queue head) self.old)
-            (happens plain (StoreHead queue head) self.old) self.old self.new result }
-    {
-        let at = queue.0 as usize;
-        if at >= self.ports.len() {
-            return Err(CoreRefusal::NotAllowed { index: 0 });
-        }
-        if !self.ledger.is_end(queue, head) {
-            return Err(CoreRefusal::NotAllowed { index: 0 });
-        }
-        self.ports[at].try_store_head(head)
+/// The posted command of this count ends with an error.
+pub fn fail_command(
+    ledger: &Ledger,
+    ports: &mut Vec<PlainPort>,
+    queue: QueueNo,
+    count: u64,
+) -> Result<(), CoreRefusal>
+    requires { AreSides ledger.now ports.old.items }
+    ensures { QueueAnswers ledger.now queue (MayEnd count) (fail_side count) ports.old.items
+        ports.new.items result }
+{
+    let at = queue.0 as usize;
+    if at >= ports.len() {
+        return Err(CoreRefusal::NotAllowed { index: 0 });
     }
+    ports[at].fail(count)
+}
 
-    /// The queue's stored head becomes certain.
-    pub fn flush_head(&mut self, queue: QueueNo) -> Result<(), CoreRefusal>
-        ensures { Answers (IsAllowed plain (FlushHead queue) self.old)
-            (happens plain (FlushHead queue) self.old) self.old self.new result }
-    {
-        if queue.0 as usize >= self.ports.len() {
-            return Err(CoreRefusal::NotAllowed { index: 0 });
-        }
-        self.flush_port(queue);
-        Ok(())
+/// The queue's head is stored.
+pub fn store_head(
+    ledger: &Ledger,
+    ports: &mut Vec<PlainPort>,
+    queue: QueueNo,
+    head: u64,
+) -> Result<(), CoreRefusal>
+    requires { AreSides ledger.now ports.old.items }
+    ensures { QueueAnswers ledger.now queue
+        (λ p. MayStoreHead (from_at ledger.now.starts queue) (of_queue queue ledger.now.history) p head)
+        (λ p. after_store_head p head) ports.old.items ports.new.items result }
+{
+    let at = queue.0 as usize;
+    if at >= ports.len() {
+        return Err(CoreRefusal::NotAllowed { index: 0 });
     }
+    if !ledger.is_end(queue, head) {
+        return Err(CoreRefusal::NotAllowed { index: 0 });
+    }
+    ports[at].try_store_head(head)
+}
+
+/// The queue's stored head becomes certain.
+pub fn flush_head(
+    ledger: &mut Ledger,
+    ports: &mut Vec<PlainPort>,
+    queue: QueueNo,
+) -> Result<(), CoreRefusal>
+    requires { AreSides ledger.old ports.old.items }
+    ensures ports { QueueAnswers ledger.old queue Always after_flush ports.old.items
+        ports.new.items result }
+    ensures ledger { ledger.new ≡ settled ports.new.items ledger.old }
+{
+    if queue.0 as usize >= ports.len() {
+        return Err(CoreRefusal::NotAllowed { index: 0 });
+    }
+    flush_port(ledger, ports, queue);
+    Ok(())
 }

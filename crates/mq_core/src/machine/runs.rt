@@ -2,13 +2,32 @@
 ghost use Rattle.std.specs.Prelude.{◌≡◌, IfOk, IfErr};
 ghost use Rattle.mq_ledger.specs.Plain.{plain};
 ghost use Rattle.mq_core.specs.Answers.{Answers};
-ghost use Rattle.mq_core.specs.Machine.{IsAllowed, happens, run, AreAllowed, IsAlwaysLawful, IsRefusal};
+ghost use Rattle.mq_core.specs.Machine.{IsAllowed, happens, Stage, run, AreAllowed, IsAlwaysLawful, IsRefusal};
 
 use super::Core;
+use super::bases::store_base;
+use super::homes::home_done;
+use super::rings::{
+    complete, fail_command, flush, flush_head, next_count, ring, stage, store_head,
+};
 use crate::{CoreRefusal, Event};
+use mq_blocks::QueueNo;
 use std::alloc::Global;
 
 impl Core {
+    /// The next entry of the queue's drawn transaction is staged.
+    fn stage(&mut self, alloc: Global, queue: QueueNo) -> Result<(), CoreRefusal>
+        ensures { Answers (IsAllowed plain (Stage queue) self.old)
+            (happens plain (Stage queue) self.old) self.old self.new result }
+    {
+        let Some(count) = next_count(&self.ledger, &self.ports, queue) else {
+            return Err(CoreRefusal::NotAllowed { index: 0 });
+        };
+        let staged = self.ledger.entry(alloc, queue, count)?;
+        stage(&self.ledger, &mut self.ports, queue, staged)?;
+        Ok(())
+    }
+
     /// Makes an event happen, if it is allowed.
     pub fn apply(&mut self, alloc: Global, event: Event) -> Result<(), CoreRefusal>
         ensures { Answers (IsAllowed plain event self.old)
@@ -17,19 +36,34 @@ impl Core {
         match event {
             Event::Draw(tx) => self.draw(tx),
             Event::Stage { queue } => self.stage(alloc, queue),
-            Event::Flush { queue } => self.flush(queue),
-            Event::Ring { queue } => self.ring(queue),
-            Event::Complete { queue, count } => self.complete(queue, count),
-            Event::FailCommand { queue, count } => self.fail_command(queue, count),
-            Event::StoreHead { queue, head } => self.store_head(queue, head),
-            Event::FlushHead { queue } => self.flush_head(queue),
+            Event::Flush { queue } => flush(&mut self.ledger, &mut self.ports, queue),
+            Event::Ring { queue } => ring(&self.ledger, &mut self.ports, queue),
+            Event::Complete { queue, count } => {
+                complete(&self.ledger, &mut self.ports, queue, count)
+            }
+            Event::FailCommand { queue, count } => {
+                fail_command(&self.ledger, &mut self.ports, queue, count)
+            }
+            Event::StoreHead { queue, head } => {
+                store_head(&self.ledger, &mut self.ports, queue, head)
+            }
+            Event::FlushHead { queue } => flush_head(&mut self.ledger, &mut self.ports, queue),
             Event::Clear { queue, low } => self.clear(queue, low),
             Event::Acknowledge { number } => self.acknowledge(number),
             Event::WriteHome { block } => self.write_home(alloc, block),
-            Event::HomeDone { block } => self.home_done(alloc, block),
-            Event::StoreBase { base } => self.store_base(base),
+            Event::HomeDone { block } => home_done(
+                alloc,
+                &self.ledger,
+                &mut self.ports,
+                &mut self.root,
+                &mut self.writing,
+                block,
+            ),
+            Event::StoreBase { base } => {
+                store_base(&self.ledger, &self.ports, &mut self.root, base)
+            }
             Event::FlushBase => {
-                self.flush_base();
+                self.root.flush();
                 Ok(())
             }
         }

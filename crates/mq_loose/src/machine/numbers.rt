@@ -1,13 +1,12 @@
 // Events on numbers: a transaction is drawn, numbers are acknowledged.
-ghost use Rattle.std.specs.Prelude.{◌≡◌, ◌<◌, ◌+◌, ◌↔◌, ◌&&◌, [], IfOk, IsTrue, OnOk};
+ghost use Rattle.std.specs.Prelude.{◌≡◌, ◌<◌, ◌↔◌, [], IfOk, IsTrue, OnOk};
 ghost use Rattle.mq_blocks.specs.Descriptor.{AreRising};
 ghost use Rattle.mq_blocks.specs.Geometry.{homes_of};
 ghost use Rattle.mq_ledger.specs.History.{last};
 ghost use Rattle.mq_ledger.specs.KnownJournal.{IsTx};
 ghost use Rattle.mq_ledger.specs.Plain.{plain};
-ghost use Rattle.mq_ledger.specs.State.{from_at, port_at};
 ghost use Rattle.mq_core.specs.Answers.{Answers};
-ghost use Rattle.mq_core.specs.Events.{HasRoom, draw, us_of};
+ghost use Rattle.mq_core.specs.Events.{draw};
 ghost use Rattle.mq_loose_order.specs.Dependence.{depends_on, with_last};
 ghost use Rattle.mq_loose.specs.Guards.{IsDrawable, MayDrawLoose};
 ghost use Rattle.mq_loose.specs.Rows.{row_for, with_lasts};
@@ -17,8 +16,8 @@ use super::LooseCore;
 use super::rows::{LooseRow, logged_blocks, newest_of, row_of};
 use crate::LooseTx;
 use mq_blocks::{BlockNo, OutOfMemory, TxNo};
-use mq_core::{CoreRefusal, drop_changed};
-use mq_ledger::{Blocks, Ledger, Tx, Writes, descriptor_blocks};
+use mq_core::{CoreRefusal, Parts, drop_changed};
+use mq_ledger::{Blocks, Ledger, Tx, Writes};
 use mq_loose_order::Numbers;
 use std::alloc::Global;
 
@@ -62,29 +61,6 @@ fn add_changes(
 }
 
 impl LooseCore {
-    /// Whether the entries of a transaction fit into ring and area of its queue.
-    fn has_room(&self, tx: &Tx) -> bool
-        requires { IsTx self.now.geometry tx.now }
-        ensures { IsTrue result
-            ↔ HasRoom self.now.geometry (from_at self.now.starts tx.now.queue) self.now.root.base
-            (us_of self.now tx.now.queue) tx.now (port_at self.now.ports tx.now.queue) }
-    {
-        let port = &self.ports[tx.queue.0 as usize];
-        let end = self.ledger.end(tx.queue);
-        let place = self.ledger.next_place(tx.queue);
-        let covered = self.ledger.covered_place(tx.queue, TxNo(self.root.base()));
-        let logged = &tx.logged;
-        let direct = &tx.direct;
-        let copies = logged.0.len() as u64;
-        let blocks = descriptor_blocks(tx);
-        let entries = copies + direct.0.len() as u64 + blocks;
-        port.is_rung_to(end)
-            && entries <= port.room()
-            && place + copies + blocks <= covered + u64::from(self.ledger.geometry().area())
-            && place + copies + blocks <= 1 << 62
-            && end + entries <= 1 << 63
-    }
-
     /// Whether a transaction is the next, names few blocks and fits into ring and area.
     fn is_drawable(&self, tx: &Tx) -> bool
         ensures { IsTrue result ↔ IsDrawable plain self.now tx.now }
@@ -97,7 +73,12 @@ impl LooseCore {
         if logged.len() > NAMED_LIMIT || freed.len() > NAMED_LIMIT - logged.len() {
             return false;
         }
-        self.has_room(tx)
+        let now = Parts {
+            ledger: &self.ledger,
+            ports: &self.ports,
+            root: &self.root,
+        };
+        now.has_room(tx)
     }
 
     /// The numbers on which a transaction depends.
@@ -149,7 +130,7 @@ impl LooseCore {
         let row = self.next_row(alloc, &tx, deps)?;
         self.rows.reserve(1)?;
         self.ledger.push(tx)?;
-        self.rows.push(row)?;
+        self.rows.push_reserved(row);
         drop_changed(&self.ledger, &mut self.writing, number);
         Ok(())
     }

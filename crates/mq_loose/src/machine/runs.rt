@@ -6,7 +6,9 @@ ghost use Rattle.mq_loose.specs.Runs.{IsAllowed, happens, run, AreAllowed, IsAlw
 
 use super::LooseCore;
 use crate::LooseEvent;
-use mq_core::CoreRefusal;
+use mq_core::{
+    CoreRefusal, complete, fail_command, flush, flush_head, home_done, ring, store_base, store_head,
+};
 use std::alloc::Global;
 
 impl LooseCore {
@@ -18,18 +20,33 @@ impl LooseCore {
         match event {
             LooseEvent::Draw(tx) => self.draw(alloc, tx),
             LooseEvent::Stage { queue } => self.stage(alloc, queue),
-            LooseEvent::Flush { queue } => self.flush(queue),
-            LooseEvent::Ring { queue } => self.ring(queue),
-            LooseEvent::Complete { queue, count } => self.complete(queue, count),
-            LooseEvent::FailCommand { queue, count } => self.fail_command(queue, count),
-            LooseEvent::StoreHead { queue, head } => self.store_head(queue, head),
-            LooseEvent::FlushHead { queue } => self.flush_head(queue),
+            LooseEvent::Flush { queue } => flush(&mut self.ledger, &mut self.ports, queue),
+            LooseEvent::Ring { queue } => ring(&self.ledger, &mut self.ports, queue),
+            LooseEvent::Complete { queue, count } => {
+                complete(&self.ledger, &mut self.ports, queue, count)
+            }
+            LooseEvent::FailCommand { queue, count } => {
+                fail_command(&self.ledger, &mut self.ports, queue, count)
+            }
+            LooseEvent::StoreHead { queue, head } => {
+                store_head(&self.ledger, &mut self.ports, queue, head)
+            }
+            LooseEvent::FlushHead { queue } => flush_head(&mut self.ledger, &mut self.ports, queue),
             LooseEvent::Acknowledge { number } => self.acknowledge(alloc, number),
             LooseEvent::WriteHome { block } => self.write_home(alloc, block),
-            LooseEvent::HomeDone { block } => self.home_done(alloc, block),
-            LooseEvent::StoreBase { base } => self.store_base(base),
+            LooseEvent::HomeDone { block } => home_done(
+                alloc,
+                &self.ledger,
+                &mut self.ports,
+                &mut self.root,
+                &mut self.writing,
+                block,
+            ),
+            LooseEvent::StoreBase { base } => {
+                store_base(&self.ledger, &self.ports, &mut self.root, base)
+            }
             LooseEvent::FlushBase => {
-                self.flush_base();
+                self.root.flush();
                 Ok(())
             }
         }

@@ -10,8 +10,8 @@ use mq_calls::Gate;
 use mq_cli::{FailingCommand, RunFlags};
 use mq_command_run::run;
 use mq_image_ops::Failing;
-use mq_image_run::{Ending, RunOptions};
 use mq_outside::{Files, Sink};
+use mq_run_laws::{Ending, RunOptions};
 use std::alloc::Global;
 use std::sync::Wait;
 use std::thread::Threads;
@@ -65,7 +65,8 @@ pub fn run_script_files<F: Files, K: Sink, R: Threads + Wait + Sync, G: Gate + S
     requires script { 1 ≤ length scripts.now }
     ensures ends { (status : ℕ)
         × (text : List ℕ)
-        × Runs (run_options options) image.now (map (λ s. s.now) scripts.now) (F.state files.old) (F.state files.new) status text
+        × Runs (run_options options) image.now (map (λ s. s.now) scripts.now) (F.state files.old)
+        (F.state files.new) status text
         × EndsWith status text result (K.state out.old) (K.state out.new) }
     ensures decided { (status : ℕ)
         → RunDecides image.now (map (λ s. s.now) scripts.now) options (F.state files.old).contents status

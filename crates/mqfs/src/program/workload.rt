@@ -26,7 +26,8 @@ pub fn run_workload<F: Files, K: Sink, R: Threads + Wait + Sync, G: Gate + Sync>
     requires threads { (1 ≤ threads) × (threads ≤ 16) }
     ensures ends { (status : ℕ)
         × (text : List ℕ)
-        × Generates (asked_workload seed threads groups) (option_map (λ s. s.now) save.entry) (F.state files.old) (F.state files.new) status text
+        × Generates (asked_workload seed threads groups) (option_map (λ s. s.now) save.entry)
+        (F.state files.old) (F.state files.new) status text
         × EndsWith status text result (K.state out.old) (K.state out.new) }
     ensures decided { (status : ℕ) → status ≡ 0 → IsUnlessFailed status result }
 {

@@ -27,8 +27,7 @@ drain_side-requires-clause-known g c =
     let faults = g.P.Port.faults in
     let group = g.G.Groups.group in
     let took = c.in-Side.ensures.took in
-    let q = c.args.queue in
-    (took.0, subst (λ v. Sees (machine state faults group) v took.0) (sym took.1) (taken_seen state faults group (slot_of (start_of c.args.desk.now) (Side q)) took.0 (view c.args.chair.now) took.2))
+    (took.0, subst (λ v. Sees (machine state faults group) v took.0) (sym took.1) (taken_seen state faults group (slot_of (start_of c.args.desk.now) (Side c.args.queue)) took.0 (view c.args.chair.now) took.2))
 
 pub returns-clause-drained : goal.returns-clause-drained
 returns-clause-drained g c =

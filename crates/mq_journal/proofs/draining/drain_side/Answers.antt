@@ -29,12 +29,11 @@ stop-requires-clause-low g c = λ n named.
     let faults = g.P.Port.faults in
     let group = g.G.Groups.group in
     let s = c.args.side in
-    let u = c.drain.new.self in
     let e = c.in-Err.ensures in
     let K = c.requires.known.0 in
     let sees = c.requires.known.1 in
     let is = side_known state faults group (start_of c.args.desk.now) s.pmr.queue s (view c.args.chair.now) c.requires.at.1 c.requires.side K sees in
-    low_of state faults group s.pmr.queue K s u sees.ok is e.stays e.counts e.told e.stored c.args.at n c.in-Err.cause e.drains named
+    low_of state faults group s.pmr.queue K s c.drain.new.self sees.ok is e.stays e.counts e.told e.stored c.args.at n c.in-Err.cause e.drains named
 
 pub stop-requires-clause-below : goal.stop-requires-clause-below
 stop-requires-clause-below g c = λ n named K sees.

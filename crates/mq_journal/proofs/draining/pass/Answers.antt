@@ -60,7 +60,6 @@ give_back-requires-clause-stands g c = λ K sees.
 pub returns-clause-passed : goal.returns-clause-passed
 returns-clause-passed g c =
     let o = start_of c.args.desk.now in
-    let v = view c.args.chair.now in
     let cleared = c.clear.ensures.cleared in
-    let is = subst (λ z. view c.clear.new.chair ≡ after_clear z c.args.low cleared.0 v) c.queue-queue.ensures cleared.1 in
+    let is = subst (λ z. view c.clear.new.chair ≡ after_clear z c.args.low cleared.0 (view c.args.chair.now)) c.queue-queue.ensures cleared.1 in
     record { known = cleared.0; sees = cleared.2; is = c.give_back.ensures.gave ∙ (λ i. giving (length o.pages + c.queue-queue.ensures i) (is i)) }

@@ -73,12 +73,8 @@ give_back-requires-clause-stands g c = λ K sees.
 
 pub returns-clause-reported : goal.returns-clause-reported
 returns-clause-reported g c =
-    let state = g.P.Port.state in
-    let faults = g.P.Port.faults in
-    let group = g.G.Groups.group in
-    let μ = machine state faults group in
+    let μ = machine g.P.Port.state g.P.Port.faults g.G.Groups.group in
     let o = start_of c.args.desk.now in
-    let v = view c.args.chair.now in
     let noted = c.charge.ensures.noted in
-    let is = subst (λ z. view c.charge.new.chair ≡ after_notice μ (notice.Charge (reported z c.args.report)) noted.0 v) c.queue-queue.ensures noted.1 in
+    let is = subst (λ z. view c.charge.new.chair ≡ after_notice μ (notice.Charge (reported z c.args.report)) noted.0 (view c.args.chair.now)) c.queue-queue.ensures noted.1 in
     record { known = noted.0; sees = noted.2; is = c.give_back.ensures.gave ∙ (λ i. giving (length o.pages + c.queue-queue.ensures i) (is i)) }

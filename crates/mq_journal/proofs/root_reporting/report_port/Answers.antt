@@ -70,8 +70,7 @@ give_back-requires-clause-stands g c = λ K sees.
 pub returns-clause-reported : goal.returns-clause-reported
 returns-clause-reported g c =
     let μ = machine g.P.Port.state g.P.Port.faults g.G.Groups.group in
-    let v = view c.args.chair.now in
     let t = c.args.turn.now in
     let noted = c.charge.ensures.noted in
-    let is = subst (λ y. view c.charge.new.chair ≡ after_notice μ (notice.Charge (record { port = t; report = y })) noted.0 v) c.report_of-report.ensures noted.1 in
+    let is = subst (λ y. view c.charge.new.chair ≡ after_notice μ (notice.Charge (record { port = t; report = y })) noted.0 (view c.args.chair.now)) c.report_of-report.ensures noted.1 in
     record { known = noted.0; sees = noted.2; is = c.give_back.ensures.gave ∙ ap (giving (slot_of (start_of c.args.desk.now) t)) is }

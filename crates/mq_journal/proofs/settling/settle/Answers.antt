@@ -15,12 +15,10 @@ returns-clause-settled g c =
     let faults = g.P.Port.faults in
     let group = g.G.Groups.group in
     let o = start_of c.args.desk.now in
-    let q = c.args.queue in
     let side = c.take_side-side.result in
     let took = c.take_side-side.ensures.took in
     let own = c.take_side-side.ensures.queue in
     let a = c.settle_side.ensures.settled in
-    let v = view c.args.chair.now in
     let w = view c.take_side-side.new.chair in
     let new = view c.settle_side.new.chair in
     record {
@@ -32,7 +30,7 @@ returns-clause-settled g c =
       drains = a.drains;
       cause = a.cause;
       settles = ok-both c.settle_side.result (λ n p d.
-          settles state faults group o q n a.after v w new took.known c.requires.at.1 c.requires.above took.is
+          settles state faults group o c.args.queue n a.after (view c.args.chair.now) w new took.known c.requires.at.1 c.requires.above took.is
           (subst (λ z. IsPassed state faults group o z 18446744073709551615 w new) own p)
           (λ K sees. subst (λ z. ShowsDone state faults group z n a.after K) own (d K sees))) a.passed a.done;
     }
@@ -44,7 +42,6 @@ returns-clause-swept g c =
     let group = g.G.Groups.group in
     let o = start_of c.args.desk.now in
     let q = c.args.queue in
-    let side = c.take_side-side.result in
     let took = c.take_side-side.ensures.took in
     let own = c.take_side-side.ensures.queue in
     let a = c.settle_side.ensures.settled in
@@ -65,10 +62,9 @@ returns-clause-refused g c =
     let o = start_of c.args.desk.now in
     let took = c.take_side-side.ensures.took in
     let own = c.take_side-side.ensures.queue in
-    let v = view c.args.chair.now in
     let w = view c.take_side-side.new.chair in
     let new = view c.settle_side.new.chair in
     IfErr-weaker c.settle_side.result _ _ (λ e p.
-    refuses state faults group o c.args.queue e v w new took.known c.requires.at.1 c.requires.above took.is
+    refuses state faults group o c.args.queue e (view c.args.chair.now) w new took.known c.requires.at.1 c.requires.above took.is
     (subst (λ z. IsReported state faults group o z (report_of e) w new) own p))
     c.settle_side.ensures.refused

@@ -2,7 +2,7 @@ use Rattle.std.proofs.Common.{◌≡◌}
 use Rattle.std.proofs.lemmas.Result.{IfErr-weaker}
 use Rattle.mq_kv_run.specs.Refusals.{RefusesStore}
 use Rattle.mq_kv_run.specs.declared.refusal.KvRunRefusal.TheVariants.{OutOfMemory}
-use Rattle.mq_kv_run.proofs.Refusals.{only-wanting}
+use Rattle.mq_kv_run.proofs.Left.{only-wanting}
 use Rattle.mq_kv_run.proofs.running.run_groups.Goals as goal
 
 pub returns-clause-complete : goal.returns-clause-complete

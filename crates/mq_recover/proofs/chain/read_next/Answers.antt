@@ -45,8 +45,7 @@ overflow_add-oldest g c =
     let place = good.place in
     let first : c.first_place-oldest.result ≤ d.place = omega (arith, c.first_place-oldest.ensures) in
     let size : c.from-area.result ≡ area_of c.args.geometry = omega (arith, c.area.ensures, c.from-area.ensures) in
-    let high = c.args.geometry.area_high in
-    omega (arith, place, first, size, high)
+    omega (arith, place, first, size, c.args.geometry.area_high)
 
 pub returns-then-oldest-area-clause-refused : goal.returns-then-oldest-area-clause-refused
 returns-then-oldest-area-clause-refused g c =

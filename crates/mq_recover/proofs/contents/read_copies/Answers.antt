@@ -16,14 +16,12 @@ read_copy_place-requires-clause-own g c =
 pub overflow_cast-b : goal.overflow_cast-b
 overflow_cast-b g c =
     let n = copies-length c.args.geometry c.args.copies.now c.requires.copies in
-    let high = c.args.geometry.homes_high in
-    omega (arith, c.loop-b-test.true, n, high)
+    omega (arith, c.loop-b-test.true, n, c.args.geometry.homes_high)
 
 pub invariant_of-push_back : goal.invariant_of-push_back
 invariant_of-push_back g c =
     let n = copies-length c.args.geometry c.args.copies.now c.requires.copies in
-    let high = c.args.geometry.homes_high in
-    omega (arith, c.loop-b-test.true, n, high)
+    omega (arith, c.loop-b-test.true, n, c.args.geometry.homes_high)
 
 pub returns : goal.returns
 returns g c ds are =

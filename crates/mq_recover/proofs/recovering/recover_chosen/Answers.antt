@@ -12,12 +12,10 @@ use Rattle.mq_recover.proofs.recovering.recover_chosen.Goals as goal
 
 pub write_homes-requires-clause-below : goal.write_homes-requires-clause-below
 write_homes-requires-clause-below g c =
-    let state = g.P.Port.state in
     let ds = c.requires.copies.0 in
-    let top = c.args.base in
     let writes = c.in_ok-writes.writes.items in
-    let s : DriveState = states state c.args.ports.now.queues.items c.args.ports.now.root in
-    let planned : IsPlanned c.args.geometry s ds top writes = record { writes_are = c.in_ok-writes.ensures ds c.requires.copies.1; low = c.requires.low; heads = c.requires.heads } in
+    let s : DriveState = states g.P.Port.state c.args.ports.now.queues.items c.args.ports.now.root in
+    let planned : IsPlanned c.args.geometry s ds c.args.base writes = record { writes_are = c.in_ok-writes.ensures ds c.requires.copies.1; low = c.requires.low; heads = c.requires.heads } in
     writes-below c.args.geometry s ds writes planned.writes_are
 
 pub returns-in_err-write_homes-clause-drive : goal.returns-in_err-write_homes-clause-drive
@@ -171,13 +169,12 @@ returns-in_err-move_heads-clause-bounds g c =
 
 pub returns-in_err-move_heads-clause-cause : goal.returns-in_err-move_heads-clause-cause
 returns-in_err-move_heads-clause-cause g c =
-    let faults = g.P.Port.faults in
     let p = err_from_is_err_and c.from_residual-in_err-move_heads.result c.from_residual-in_err-move_heads.ensures.1 in
     let xs = c.write_homes.new.ports.queues.items in
     let len = c.write_homes.new.ports.queues.len in
     let ys = c.move_heads.new.queues in
     let handed : IsHandedBack len xs c.deref_mut.result.now ys = record { len_is = c.write_homes.new.ports.queues.ok.0; same = c.deref_mut.ensures.value; long = c.move_heads.auto.queues } in
-    row-off faults c.args.geometry _ xs c.deref_mut.result.now ys c.write_homes.new.ports.root c.raise_base.new.root len c.from_residual-in_err-move_heads.result handed
+    row-off g.P.Port.faults c.args.geometry _ xs c.deref_mut.result.now ys c.write_homes.new.ports.root c.raise_base.new.root len c.from_residual-in_err-move_heads.result handed
     c.in_ok-write_homes.ensures.cause c.in_ok-raise_base.ensures.cause c.in_err-move_heads.ensures.cause (rw p.2 at p.1)
 
 pub returns-clause-ok : goal.returns-clause-ok

@@ -40,10 +40,10 @@ invariant_of-self-2 c =
     let i = c.self.inside in
     let t = c.args.tx in
     let row : c.in_ok-row.row ≡ row_for i.ledger.base i.ledger.starts t i.ledger.history = c.in_ok-row.ensures ∙ sym (ap (λ (v : State). row_for v.base v.starts t v.history) c.self.view_is) in
-    let items : c.push-2.new.self.items ≡ i.rows.items ++ c.in_ok-row.row ∷ [] = search rules in
+    let items : c.push_reserved.new.self.items ≡ i.rows.items ++ c.in_ok-row.row ∷ [] = search rules in
     record {
       held = subst (λ n. IsHeld n (after c)) (sym (ap (λ (l : Ledger). l.front) (pushed c))) (told c).0;
-      rows = rows_more i.ledger.base i.ledger.starts t i.ledger.history i.rows.items c.push-2.new.self.items c.in_ok-row.row c.self.invariant.rows row items ∙ sym (ap (λ (l : Ledger). reverse (loose_rows l.base l.starts l.history)) (pushed c));
+      rows = rows_more i.ledger.base i.ledger.starts t i.ledger.history i.rows.items c.push_reserved.new.self.items c.in_ok-row.row c.self.invariant.rows row items ∙ sym (ap (λ (l : Ledger). reverse (loose_rows l.base l.starts l.history)) (pushed c));
     }
 
 pub returns : goal.returns

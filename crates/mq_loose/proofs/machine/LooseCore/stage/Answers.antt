@@ -1,109 +1,95 @@
-use Rattle.std.proofs.Common.{◌≡◌, ◌<◌, ◌^◌, Result, Ok, Err, length, set, refl, sym, ap, subst, ◌∙◌, arith}
+use Rattle.std.proofs.Common.{◌≡◌, ◌<◌, ◌≤◌, List, Result, Ok, Err, set, refl, sym, ap, subst, ◌∙◌, arith}
 use Rattle.std.proofs.lemmas.Result.{err_from_is_err_and}
 use Rattle.mq_blocks.specs.Drive.{PortState, staged_end, after_stage}
-use Rattle.mq_ledger.specs.History.{of_queue}
 use Rattle.mq_ledger.specs.Items.{end_of, item_at}
 use Rattle.mq_ledger.specs.Plain.{plain}
 use Rattle.mq_ledger.specs.State.{State, port_at, from_at}
-use Rattle.mq_loose.specs.Guards.{entries_in, side_known}
 use Rattle.mq_core.specs.Answers.{Answers}
-use Rattle.mq_core.specs.Events.{us_of, stage_side, staged_with}
+use Rattle.mq_core.specs.Events.{MayStage, us_of, stage_side, staged_with}
+use Rattle.mq_loose.specs.Guards.{entries_in}
 use Rattle.mq_loose.specs.Runs.{Stage}
+use Rattle.mq_core.specs.Parts.{AreSides}
 use Rattle.mq_loose.specs.Staged.{IsStagedIn}
 use Rattle.mq_loose.specs.View.{state_of}
 use Rattle.mq_core.specs.declared.event.CoreRefusal.{CoreRefusal}
 use Rattle.mq_core.specs.declared.event.CoreRefusal.TheVariants.{OutOfMemory}
-use Rattle.mq_core.proofs.MachineLifts.{Told, same_port, port_told, answer_at}
-use Rattle.mq_core.proofs.Within.{staged_small}
 use Rattle.mq_loose.proofs.Machines.{loose_machine}
+use Rattle.mq_core.proofs.MachineLifts.{Told, answer_at}
+use Rattle.mq_core.proofs.MachineParts.{allowed_as, held_sides, queue_told}
+use Rattle.mq_loose.proofs.Sides.{sides_of}
 use Rattle.mq_loose.proofs.machine.LooseCore.stage.Goals as goal
-use Rattle.mq_loose.proofs.machine.LooseCore.stage.Goals.{Else-at-len, After-index, After-index_mut, After-stage, In_err-stage, In_ok-stage}
+use Rattle.mq_loose.proofs.machine.LooseCore.stage.Goals.{After-deref, In-Some, After-stage, In_err-stage, In_ok-stage}
 
-own : (c : Else-at-len) → c.args.queue < c.self.inside.ledger.geometry.queues
-own c = omega (arith, c.self.invariant.held.facts.ports, c.queue.view_is)
+sides : (c : After-deref) → AreSides c.self.inside.ledger c.self.inside.ports.items
+sides c =
+    let i = c.self.inside in
+    let s = state_of i in
+    held_sides i.ledger i.ports.items i.root s.marks s.writing s.acknowledged (sides_of plain s c.self.invariant.held.facts) c.self.invariant.held.front_is
 
-is_port : (c : After-index) → c.index.result.now ≡ port_at c.self.inside.ports.items c.args.queue
-is_port c =
-    let within : c.queue.inside.0 < length c.self.inside.ports.items = omega arith in
-    same_port c.self.inside.ports.items c.args.queue c.queue.inside.0 c.index.result.now within c.queue.view_is c.index.ensures
+pub next_count-requires : goal.next_count-requires
+next_count-requires c = subst (λ ps. AreSides c.self.inside.ledger ps) (sym c.deref.ensures.value) (sides c)
 
-is_changed : (c : After-index_mut) → c.index_mut.result.now ≡ port_at c.self.inside.ports.items c.args.queue
-is_changed c =
-    let within : c.queue.inside.0 < length c.self.inside.ports.items = omega arith in
-    same_port c.self.inside.ports.items c.args.queue c.queue.inside.0 c.index_mut.result.now within c.queue.view_is c.index_mut.ensures.value
-
-pub entry-requires-clause-low : goal.entry-requires-clause-low
-entry-requires-clause-low c =
-    let o = (c.self.invariant.held.facts.sides c.args.queue (own (goal.at.entry-requires-clause-low c).Else-at-len)).order in
-    let is = ap staged_end (is_port (goal.at.entry-requires-clause-low c).After-index) in
-    let from = ap (λ (t : State). from_at t.starts c.args.queue) c.self.view_is in
-    omega (arith, o.head_low, o.stored, o.rung, c.staged_end-count.ensures, is, from)
-
-pub entry-requires-clause-high : goal.entry-requires-clause-high
-entry-requires-clause-high c =
-    let end = ap (λ (t : State). end_of (from_at t.starts c.args.queue) (us_of t c.args.queue)) c.self.view_is in
-    omega (arith, c.end.ensures.is, end)
-
-pub stage-requires-clause-ring : goal.stage-requires-clause-ring
-stage-requires-clause-ring c =
-    let port = (c.self.invariant.held.facts.sides c.args.queue (own (goal.at.stage-requires-clause-ring c).Else-at-len)).port in
-    ap (λ (p : PortState). length p.staged) (is_changed c) ∙ port.staged
-
-small : (c : Else-at-len) → staged_end (port_at c.self.inside.ports.items c.args.queue) < 2 ^ 64
-small c =
+-- the count that is next
+next : (c : In-Some) → (let s = state_of c.self.inside in let q = c.args.queue in let n = c.in-Some.count in (q < s.geometry.queues) × (n ≡ staged_end (port_at s.ports q)) × (from_at s.starts q ≤ n) × (n < end_of (from_at s.starts q) (us_of s q)))
+next c =
     let s = state_of c.self.inside in
     let q = c.args.queue in
-    let f = c.self.invariant.held.facts in
-    staged_small (side_known plain s) q (us_of s q) (port_at s.ports q) f.log (f.sides q (own c))
+    let n = c.in-Some.count in
+    subst (λ (ps : List PortState). (q < s.geometry.queues) × (n ≡ staged_end (port_at ps q)) × (from_at s.starts q ≤ n) × (n < end_of (from_at s.starts q) (us_of s q))) c.deref.ensures.value c.in-Some.ensures.some
 
-pub stage-requires-clause-room : goal.stage-requires-clause-room
-stage-requires-clause-room c = subst (λ (p : PortState). staged_end p < 2 ^ 64) (sym (is_changed c)) (small (goal.at.stage-requires-clause-room c).Else-at-len)
+pub returns-in_default : goal.returns-in_default
+returns-in_default c =
+    let i = c.self.inside in
+    let q = c.args.queue in (
+      refl,
+      λ m.
+          let a : (q < i.ledger.geometry.queues) × MayStage (from_at i.ledger.starts q) (us_of (state_of i) q) (port_at i.ports.items q) = subst (λ (t : State). (q < t.geometry.queues) × MayStage (from_at t.starts q) (us_of t q) (port_at t.ports q)) (sym c.self.view_is) m in
+          c.in_default.ensures.none (subst (λ (ps : List PortState). (q < i.ledger.geometry.queues) × MayStage (from_at i.ledger.starts q) (us_of (state_of i) q) (port_at ps q)) (sym c.deref.ensures.value) a),
+      refl,
+    )
 
--- what is staged is the entry of the next count
-staged : (c : After-index_mut) → after_stage c.index_mut.result.now c.in_ok-entry.field-0.entry c.in_ok-entry.field-0.tx c.in_ok-entry.field-0.lba c.in_ok-entry.field-0.block ≡ stage_side (entries_in plain (state_of c.self.inside)) c.self.inside.ledger.geometry c.args.queue (from_at c.self.inside.ledger.starts c.args.queue) (of_queue c.args.queue c.self.inside.ledger.history) c.index_mut.result.now
-staged c =
-    let l = c.self.inside.ledger in
-    let q = c.args.queue in
-    let txs = of_queue q l.history in
-    let from = from_at l.starts q in
-    let e = entries_in plain (state_of c.self.inside) in
-    let s : IsStagedIn e.form l.geometry q (item_at from txs c.staged_end-count.result) c.in_ok-entry.field-0 = subst (λ (t : State). IsStagedIn (entries_in plain t).form t.geometry q (item_at (from_at t.starts q) (us_of t q) c.staged_end-count.result) c.in_ok-entry.field-0) (sym c.self.view_is) c.in_ok-entry.ensures in
-    let count : c.staged_end-count.result ≡ staged_end c.index_mut.result.now = c.staged_end-count.ensures ∙ ap staged_end (is_port (goal.at.After-index_mut c).After-index ∙ sym (is_changed c)) in
-    (λ i. after_stage c.index_mut.result.now (s.entry i) (s.tx i) (s.lba i) (s.block i))
-    ∙ ap (λ n. staged_with e l.geometry q (item_at from txs n) c.index_mut.result.now) count
+pub entry-requires-clause-queue : goal.entry-requires-clause-queue
+entry-requires-clause-queue c = subst (λ (t : State). c.args.queue < t.geometry.queues) c.self.view_is (next (goal.at.entry-requires-clause-queue c).In-Some).0
 
-may : (c : After-index_mut) → staged_end (port_at c.self.inside.ports.items c.args.queue) < end_of (from_at c.self.inside.ledger.starts c.args.queue) (of_queue c.args.queue c.self.inside.ledger.history)
-may c = (let is = ap staged_end (is_port (goal.at.After-index_mut c).After-index) in omega (arith, c.staged_end-count.ensures, c.end.ensures.is, is, c.if-count-end.false))
+pub entry-requires-clause-low : goal.entry-requires-clause-low
+entry-requires-clause-low c = subst (λ (t : State). from_at t.starts c.args.queue ≤ c.in-Some.count) c.self.view_is (next (goal.at.entry-requires-clause-low c).In-Some).2
 
-told : (c : After-stage) (r : Result (Unit {0}) CoreRefusal) → Answers (Unit {0}) (after_stage c.index_mut.result.now c.in_ok-entry.field-0.entry c.in_ok-entry.field-0.tx c.in_ok-entry.field-0.lba c.in_ok-entry.field-0.block) c.index_mut.result.now c.stage.new.self r
-    → Told loose_machine (Stage c.args.queue) c.self.inside.ledger.front (state_of c.self.inside) (record (state_of c.self.inside) { ports = set c.self.inside.ports.items c.queue.inside.0 c.stage.new.self }) r
+pub entry-requires-clause-high : goal.entry-requires-clause-high
+entry-requires-clause-high c = subst (λ (t : State). c.in-Some.count < end_of (from_at t.starts c.args.queue) (us_of t c.args.queue)) c.self.view_is (next (goal.at.entry-requires-clause-high c).In-Some).3
+
+pub stage-requires-clause-queue : goal.stage-requires-clause-queue
+stage-requires-clause-queue c = (next (goal.at.stage-requires-clause-queue c).In-Some).0
+
+pub stage-requires-clause-sides : goal.stage-requires-clause-sides
+stage-requires-clause-sides c = sides (goal.at.stage-requires-clause-sides c).After-deref
+
+told : (c : After-stage) (r : Result (Unit {0}) CoreRefusal) → Answers (Unit {0}) (set c.self.inside.ports.items c.args.queue (after_stage (port_at c.self.inside.ports.items c.args.queue) c.in_ok-staged.staged.entry c.in_ok-staged.staged.tx c.in_ok-staged.staged.lba c.in_ok-staged.staged.block)) c.self.inside.ports.items c.stage.new.ports.items r
+    → Told loose_machine (Stage c.args.queue) c.self.inside.ledger.front (state_of c.self.inside) (record (state_of c.self.inside) { ports = c.stage.new.ports.items }) r
 told c r a =
     let s = state_of c.self.inside in
     let q = c.args.queue in
     let from = from_at s.starts q in
-    let at = (goal.at.After-stage c).After-index_mut in
-    let within : c.queue.inside.0 < length s.ports = omega arith in
-    let there = may at in
-    let after : PortState → PortState = stage_side (entries_in plain s) s.geometry q from (us_of s q) in
-    port_told loose_machine c.self.inside.ledger.front q c.queue.inside.0 s c.index_mut.result.now c.stage.new.self (λ p. Unit {0}) after r within c.queue.view_is c.index_mut.ensures.value c.self.invariant.held
-    (subst (λ w. Answers (Unit {0}) w c.index_mut.result.now c.stage.new.self r) (staged at) a) (Stage q) (λ m. (own (goal.at.After-stage c).Else-at-len, there)) (λ m. tt) refl refl
-
-stays : (c : In_err-stage) → Told loose_machine (Stage c.args.queue) c.self.inside.ledger.front (state_of c.self.inside) (record (state_of c.self.inside) { ports = set c.self.inside.ports.items c.queue.inside.0 c.stage.new.self }) (Err OutOfMemory)
-stays c = told (goal.at.In_err-stage c).After-stage (Err OutOfMemory) c.in_err-stage.ensures.refused
-
-moves : (c : In_ok-stage) → Told loose_machine (Stage c.args.queue) c.self.inside.ledger.front (state_of c.self.inside) (record (state_of c.self.inside) { ports = set c.self.inside.ports.items c.queue.inside.0 c.stage.new.self }) (Ok tt)
-moves c = told (goal.at.In_ok-stage c).After-stage (Ok tt) (tt, c.in_ok-stage.ensures.ok)
+    let n = next (goal.at.After-stage c).In-Some in
+    let port = port_at s.ports q in
+    let e = entries_in plain s in
+    let w : IsStagedIn e.form s.geometry q (item_at from (us_of s q) c.in-Some.count) c.in_ok-staged.staged = subst (λ (t : State). IsStagedIn (entries_in plain t).form t.geometry q (item_at (from_at t.starts q) (us_of t q) c.in-Some.count) c.in_ok-staged.staged) (sym c.self.view_is) c.in_ok-staged.ensures in
+    let is : after_stage port c.in_ok-staged.staged.entry c.in_ok-staged.staged.tx c.in_ok-staged.staged.lba c.in_ok-staged.staged.block ≡ stage_side e s.geometry q from (us_of s q) port =
+    (λ i. after_stage port (w.entry i) (w.tx i) (w.lba i) (w.block i)) ∙ ap (λ m. staged_with e s.geometry q (item_at from (us_of s q) m) port) n.1 in
+    let may : MayStage from (us_of s q) port = omega (arith, n.1, n.3) in
+    let both : (q < s.geometry.queues) × MayStage from (us_of s q) port = (n.0, may) in
+    queue_told loose_machine (Stage q) c.self.inside.ledger.front s q (λ p. MayStage from (us_of s q) p) (stage_side e s.geometry q from (us_of s q)) c.stage.new.ports.items r c.self.invariant.held c.self.invariant.held.facts.ports
+    (allowed_as ((q < s.geometry.queues) × MayStage from (us_of s q) port) (set s.ports q (stage_side e s.geometry q from (us_of s q) port)) s.ports c.stage.new.ports.items both r (subst (λ (p : PortState). Answers (Unit {0}) (set s.ports q p) s.ports c.stage.new.ports.items r) is a)) (λ m. m) (λ m. m) refl refl
 
 pub invariant_of-self : goal.invariant_of-self
-invariant_of-self c = record { held = (stays (goal.at.invariant_of-self c).In_err-stage).held; rows = c.self.invariant.rows }
+invariant_of-self c = record { held = (told (goal.at.invariant_of-self c).After-stage (Err OutOfMemory) c.in_err-stage.ensures.refused).held; rows = c.self.invariant.rows }
 
 pub returns-in_err-stage : goal.returns-in_err-stage
 returns-in_err-stage c =
     let p = err_from_is_err_and c.from_residual-in_err-stage.result c.from_residual-in_err-stage.ensures.1 in
-    rw (p.1, p.2) (answer_at c.self.view_is (stays (goal.at.returns-in_err-stage c).In_err-stage))
+    rw (p.1, p.2) (answer_at c.self.view_is (told (goal.at.returns-in_err-stage c).After-stage (Err OutOfMemory) c.in_err-stage.ensures.refused))
 
 pub invariant_of-self-2 : goal.invariant_of-self-2
-invariant_of-self-2 c = record { held = (moves (goal.at.invariant_of-self-2 c).In_ok-stage).held; rows = c.self.invariant.rows }
+invariant_of-self-2 c = record { held = (told (goal.at.invariant_of-self-2 c).After-stage (Ok tt) (tt, c.in_ok-stage.ensures.ok)).held; rows = c.self.invariant.rows }
 
 pub returns : goal.returns
-returns c = answer_at c.self.view_is (moves (goal.at.returns c).In_ok-stage)
+returns c = answer_at c.self.view_is (told (goal.at.returns c).After-stage (Ok tt) (tt, c.in_ok-stage.ensures.ok))

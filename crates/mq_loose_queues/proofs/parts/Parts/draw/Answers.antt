@@ -23,17 +23,13 @@ use Rattle.mq_loose_queues.proofs.parts.Parts.draw.Goals as goal
 
 pub note_commit-requires-clause-blocks : goal.note_commit-requires-clause-blocks
 note_commit-requires-clause-blocks g c =
-    let state = g.P.Port.state in
-    let faults = g.P.Port.faults in
-    let v = parts_state state faults c.args.self.now in
+    let v = parts_state g.P.Port.state g.P.Port.faults c.args.self.now in
     subst (λ (k : ℕ). AreRising 0 k c.deref.result.now) (sym (homes_any v c.requires.journal))
     (subst (λ (xs : List ℕ). AreRising 0 (homes_of c.args.self.now.geometry) xs) (sym (c.deref.ensures.value ∙ c.requires.ready.blocks)) c.requires.request.writes)
 
 pub note_commit-requires-clause-frees : goal.note_commit-requires-clause-frees
 note_commit-requires-clause-frees g c =
-    let state = g.P.Port.state in
-    let faults = g.P.Port.faults in
-    let v = parts_state state faults c.args.self.now in
+    let v = parts_state g.P.Port.state g.P.Port.faults c.args.self.now in
     subst (λ (k : ℕ). AreRising 0 k c.args.frees.now) (sym (homes_any v c.requires.journal)) c.requires.request.frees_rise
 
 pub index_mut-requires : goal.index_mut-requires
@@ -41,12 +37,11 @@ index_mut-requires g c =
     let state = g.P.Port.state in
     let faults = g.P.Port.faults in
     let v = parts_state state faults c.args.self.now in
-    let mid = c.note_commit.new.self in
     let within = own_any v c.args.queue c.requires.journal c.requires.request.queue in
     let long = length-map c.args.self.now.sides.items (stored_state state faults) in
     let same = ap (λ sides. length sides.items) c.note_commit.ensures.sides in
     let at = c.queue.view_is in
-    omega (arith, within, long, same, at, mid.sides.ok.0)
+    omega (arith, within, long, same, at, c.note_commit.new.self.sides.ok.0)
 
 pub send_on-answer-requires-clause-reserved : goal.send_on-answer-requires-clause-reserved
 send_on-answer-requires-clause-reserved g c =
@@ -67,9 +62,8 @@ send_on-answer-requires-clause-places g c =
     let at = ap (λ (y : StoredSide). next_in y.rows) (read state faults c.args.self.now c.note_commit.new.self c.args.queue c.queue.inside.0 c.args.number c.index_mut.result.now c.index_mut.result.now c.args.ready.prepared.logged c.args.frees.now c.args.ready m.geometry m.sides m.root changes m.rows c.queue.view_is c.index_mut.ensures.value c.requires.journal c.requires.request c.requires.may c.requires.few c.requires.number c.requires.ready) in
     let s = sizes v c.args.queue c.args.number c.args.ready.prepared.logged c.args.frees.now c.args.ready c.requires.journal c.requires.request c.requires.may c.requires.few c.requires.number c.requires.ready in
     let area = c.requires.may.area in
-    let high = c.args.self.now.geometry.area_high in
     let top : 16384 < 2 ^ 62 = omega arith in
-    omega (arith, at, s.0, s.1.1, area, high, top)
+    omega (arith, at, s.0, s.1.1, area, c.args.self.now.geometry.area_high, top)
 
 pub send_on-answer-requires-clause-queue : goal.send_on-answer-requires-clause-queue
 send_on-answer-requires-clause-queue g c =
@@ -133,8 +127,7 @@ refresh-requires-clause-rows g c =
     let v = parts_state state faults c.args.self.now in
     let m = c.note_commit.ensures in
     let changes = m.changes ∙ ap (λ xs. with_changes c.args.frees.now (record { number = c.args.number; is_there = false }) (with_changes xs (record { number = c.args.number; is_there = true }) c.args.self.now.changes.items)) c.deref.ensures.value in
-    let items = c.args.self.now.sides.items in
-    let long : length v.sides ≡ length c.deref-3.result.now = length-map items (stored_state state faults) ∙ (sym (ap (λ sides. length sides.items) m.sides) ∙ (sym (length-set c.note_commit.new.self.sides.items c.queue.inside.0 c.send_on-answer.new.side) ∙ ap length (sym c.deref-3.ensures.value))) in
+    let long : length v.sides ≡ length c.deref-3.result.now = length-map c.args.self.now.sides.items (stored_state state faults) ∙ (sym (ap (λ sides. length sides.items) m.sides) ∙ (sym (length-set c.note_commit.new.self.sides.items c.queue.inside.0 c.send_on-answer.new.side) ∙ ap length (sym c.deref-3.ensures.value))) in
     subst (λ b. AreRows b c.deref-2.result.now (length c.deref-3.result.now)) (sym c.base-base.ensures)
     (subst (λ rows. AreRows v.root.base rows (length c.deref-3.result.now)) (sym c.deref-2.ensures.value)
     (subst (λ k. AreRows v.root.base c.note_commit.new.self.rows.items k) long (rows_later state faults c.args.self.now c.note_commit.new.self c.args.queue c.queue.inside.0 c.args.number c.index_mut.result.now c.send_on-answer.new.side c.args.ready.prepared.logged c.args.frees.now c.args.ready m.geometry m.sides m.root changes m.rows c.queue.view_is c.index_mut.ensures.value c.requires.journal c.requires.request c.requires.may c.requires.few c.requires.number c.requires.ready)))
@@ -151,9 +144,7 @@ refresh-requires-clause-rings g c =
 
 pub refresh-requires-clause-room : goal.refresh-requires-clause-room
 refresh-requires-clause-room g c =
-    let state = g.P.Port.state in
-    let faults = g.P.Port.faults in
-    let v = parts_state state faults c.args.self.now in
+    let v = parts_state g.P.Port.state g.P.Port.faults c.args.self.now in
     let rows = ap length c.deref-2.ensures.value in
     let more = ap length c.note_commit.ensures.rows in
     let long = length-append c.args.self.now.rows.items (c.args.ready.row ∷ []) in

@@ -2,8 +2,8 @@ use Rattle.std.proofs.Common.{◌≤◌, ◌<◌, ◌^◌, List, ℕ, Bor, Optio
 use Rattle.std.specs.Prelude.{IfSome}
 use Rattle.std.specs.Option.{ForSome}
 use Rattle.std.proofs.lemmas.Option.{none-some, same_Some}
-use Rattle.mq_image_run.specs.Endings.{limit_of}
-use Rattle.mq_image_run.specs.declared.options.RunOptions.{RunOptions}
+use Rattle.mq_run_laws.specs.Endings.{limit_of}
+use Rattle.mq_run_laws.specs.declared.options.RunOptions.{RunOptions}
 use Rattle.mqfs.specs.Says.{run_ending}
 use Rattle.mqfs.proofs.Decided.{run_decided, run_runs}
 use Rattle.mqfs.proofs.program.scripts.run_script_files.Goals as goal

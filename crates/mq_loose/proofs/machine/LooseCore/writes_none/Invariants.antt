@@ -1,7 +1,0 @@
-use Rattle.std.proofs.Common.{◌≡◌, drop}
-use Rattle.mq_core.specs.Bases.{writes_none}
-use Rattle.mq_loose.proofs.machine.LooseCore.writes_none.Given as goal
-
--- the rest of the commands decides
-abbrev pub invariant-loop-command : goal.invariant-loop-command
-invariant-loop-command l = writes_none l.self l.base l.commands ≡ writes_none l.self l.base (drop l.command-index l.commands)
