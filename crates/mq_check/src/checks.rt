@@ -8,10 +8,9 @@ ghost use Rattle.mq_tree.specs.Volume.{Volume, tree as things_of};
 ghost use Rattle.mq_tree.specs.declared.corrupt.CorruptCause.{CorruptCause};
 
 use crate::marks::marked_blocks;
-use crate::pages::are_pages;
 use crate::verdict::Verdict;
 use mq_blocks::{Block, BlockNo, Geometry, OutOfMemory};
-use mq_tree::{PhaseRefusal, Tree, mount_by_phases};
+use mq_tree::{PhaseRefusal, Tree, are_pages, mount_by_phases};
 use std::alloc::Global;
 
 /// The verdict on home blocks that have this tree.

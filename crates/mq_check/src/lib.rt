@@ -5,7 +5,6 @@
 mod checks;
 mod laws;
 mod marks;
-mod pages;
 mod verdict;
 
 pub use checks::check;

@@ -19,7 +19,7 @@ use Rattle.mq_kv_buckets.specs.declared.operation.KvOp.TheVariants.{Delete, Get,
 use Rattle.mq_kv_buckets.specs.declared.operation.KvReply.{KvReply}
 use Rattle.mq_kv_buckets.specs.declared.operation.KvReply.TheVariants.{Done, Missing, Refused, Value}
 use Rattle.mq_kv_buckets.specs.declared.operation.KvFault.TheVariants.{KeySize}
-use Rattle.mq_kv_buckets.proofs.StoreLaws.{groups-run}
+use Rattle.mq_kv_buckets.proofs.StoreLaws.{Alike, alike-runs, groups-run}
 use Rattle.mq_kv_entries.specs.Entries.{Does, Ran, map_by, tx_of}
 use Rattle.mq_kv_entries.specs.Group.{store_group}
 use Rattle.mq_kv_entries.specs.declared.entry.KvEntry.{KvEntry}
@@ -37,44 +37,14 @@ runs-to s t u [] (r ∷ rs) same run = run
 runs-to s t u (op ∷ ops) [] same run = run
 runs-to s t u (op ∷ ops) (r ∷ rs) same run = (run.0, runs-to (store_after s op r) t u ops rs same run.1)
 
--- ---- stores that agree at each key
-
-abbrev pub Alike : Store → Store → Type 0
-Alike s t = (key : List ℕ) → s key ≡ t key
-
-alike-reply : (s t : Store) (full : Bool) (op : KvOp) → Alike s t → store_reply s full op ≡ store_reply t full op
-alike-reply s t full (Put key value) h = refl
-alike-reply s t full (Delete key) h = ap (λ (o : Option (List ℕ)). cond (is_key key) (delete_reply o) (Refused KeySize)) (h key)
-alike-reply s t full (Get key) h = ap (λ (o : Option (List ℕ)). cond (is_key key) (read_reply o) (Refused KeySize)) (h key)
-
-alike-stored : (s t : Store) (key : List ℕ) (v : Option (List ℕ)) → Alike s t → Alike (stored s key v) (stored t key v)
-alike-stored s t key v h other = ap (λ (o : Option (List ℕ)). cond (bytes_eq key other) v o) (h other)
-
-alike-after : (s t : Store) (op : KvOp) (r : KvReply) → Alike s t → Alike (store_after s op r) (store_after t op r)
-alike-after s t (Put key value) Done h = alike-stored s t key (Some value) h
-alike-after s t (Put key value) (Value v) h = h
-alike-after s t (Put key value) Missing h = h
-alike-after s t (Put key value) (Refused f) h = h
-alike-after s t (Delete key) Done h = alike-stored s t key None h
-alike-after s t (Delete key) (Value v) h = h
-alike-after s t (Delete key) Missing h = h
-alike-after s t (Delete key) (Refused f) h = h
-alike-after s t (Get key) r h = h
-
-pub runs-from : (s t u : Store) (ops : List KvOp) (rs : List KvReply) → Alike s t → Runs s ops rs u → Runs t ops rs u
-runs-from s t u [] [] h run = λ key. run key ∙ h key
-runs-from s t u [] (r ∷ rs) h run = run
-runs-from s t u (op ∷ ops) [] h run = run
-runs-from s t u (op ∷ ops) (r ∷ rs) h run = ((run.0.0, run.0.1 ∙ alike-reply s t run.0.0 op h), runs-from (store_after s op r) (store_after t op r) u ops rs (alike-after s t op r h) run.1)
-
 -- one group more
 leads-more : (s t u : Store) (es : List KvEntry) (e : KvEntry) → Leads s es t → Runs t e.ops e.replies u → Leads s (es ++ e ∷ []) u
-leads-more s t u [] e led run = (u, runs-from t s u e.ops e.replies led run, λ key. refl)
+leads-more s t u [] e led run = (u, alike-runs t s u e.ops e.replies led run, λ key. refl)
 leads-more s t u (x ∷ es) e led run = (led.0, led.1, leads-more led.0 t u es e led.2 run)
 
 pub leads-from : (s t u : Store) (es : List KvEntry) → Alike s t → Leads s es u → Leads t es u
 leads-from s t u [] h led = λ key. led key ∙ h key
-leads-from s t u (e ∷ es) h led = (led.0, runs-from s t led.0 e.ops e.replies h led.1, led.2)
+leads-from s t u (e ∷ es) h led = (led.0, alike-runs s t led.0 e.ops e.replies h led.1, led.2)
 
 -- what a key has depends on the content of its bucket
 pub kv-same : (buckets : ℕ) (m n : Map) (key : List ℕ) → content (m (bucket_of buckets key)) ≡ content (n (bucket_of buckets key)) → kv_of buckets m key ≡ kv_of buckets n key

@@ -21,16 +21,16 @@ use Rattle.mq_journal.specs.Values.{side_values}
 use Rattle.mq_kv_buckets.specs.Buckets.{IsFormed}
 use Rattle.mq_kv_buckets.specs.Keys.{bucket_of}
 use Rattle.mq_kv_buckets.specs.Store.{Store, kv_of}
-use Rattle.mq_kv_buckets.proofs.StoreLaws.{bucket-low}
+use Rattle.mq_kv_buckets.proofs.StoreLaws.{Alike, bucket-low}
 use Rattle.mq_kv_entries.specs.Entries.{RanUndrawn, map_by}
 use Rattle.mq_kv_entries.specs.Group.{store_group}
 use Rattle.mq_kv_entries.specs.declared.entry.KvEntry.{KvEntry}
 use Rattle.mq_kv_entries.proofs.Entries.{meta-home, some-buckets}
-use Rattle.mq_kv_entries.proofs.Members.{cons-cases, none-contained}
+use Rattle.mq_sessions.proofs.Members.{cons-cases, none-contained}
 use Rattle.mq_kv.specs.Laws.{AnswerOn, HoldsPrefix, IsCutOfEnd, IsRepliedAt, Leads, buckets_after, buckets_at, first_groups, first_store}
 use Rattle.mq_kv.specs.Opening.{IsOpenedOver, store_map}
 use Rattle.mq_kv.proofs.AlikeBuckets.{Alike as AlikeBuckets, answers-alike, groups-alike, replies-alike}
-use Rattle.mq_kv.proofs.Histories.{Alike, answers-log, buckets-log, formed-log, kv-same, leads-from, leads-log, legal-older, ran-runs, there-log}
+use Rattle.mq_kv.proofs.Histories.{answers-log, buckets-log, formed-log, kv-same, leads-from, leads-log, legal-older, ran-runs, there-log}
 use Rattle.mq_kv.proofs.OpeningStore.{map-at}
 use Rattle.mq_ledger.specs.History.{map_after, upto}
 use Rattle.mq_queue_side.specs.declared.root.Root.{Root}

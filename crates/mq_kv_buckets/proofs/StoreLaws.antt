@@ -180,7 +180,8 @@ replies-are buckets m (Get key) = refl
 
 -- ---- operations one after another
 
-abbrev Alike : Store → Store → Type 0
+-- stores that agree at each key
+abbrev pub Alike : Store → Store → Type 0
 Alike s t = (key : List ℕ) → s key ≡ t key
 
 alike-reply : (s t : Store) (full : Bool) (op : KvOp) → Alike s t → store_reply s full op ≡ store_reply t full op
@@ -202,7 +203,7 @@ alike-after s t (Delete key) Missing h = h
 alike-after s t (Delete key) (Refused f) h = h
 alike-after s t (Get key) r h = h
 
-alike-runs : (s t u : Store) (ops : List KvOp) (rs : List KvReply) → Alike s t → Runs s ops rs u → Runs t ops rs u
+pub alike-runs : (s t u : Store) (ops : List KvOp) (rs : List KvReply) → Alike s t → Runs s ops rs u → Runs t ops rs u
 alike-runs s t u [] [] h run = λ key. run key ∙ h key
 alike-runs s t u [] (r ∷ rs) h run = run
 alike-runs s t u (op ∷ ops) [] h run = run

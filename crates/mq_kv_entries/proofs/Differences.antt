@@ -21,7 +21,7 @@ use Rattle.mq_blocks.specs.Machine.{Map, or_kept}
 use Rattle.mq_kv_entries.specs.Groups.{IsDifference}
 use Rattle.mq_kv_entries.specs.Working.{changed_of, now, was}
 use Rattle.mq_kv_entries.specs.declared.working.Working.{Working}
-use Rattle.mq_kv_entries.proofs.Members.{cons-here, cons-there}
+use Rattle.mq_sessions.proofs.Members.{cons-here, cons-there}
 use Rattle.mq_pages.specs.declared.page.Kind.TheVariants.{Meta}
 use Rattle.mq_pages.specs.declared.page.Write.{Write}
 

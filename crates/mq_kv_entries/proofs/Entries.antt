@@ -29,7 +29,7 @@ use Rattle.mq_kv_entries.specs.declared.entry.KvEntry.{KvEntry}
 use Rattle.mq_kv_entries.specs.declared.executor.KvMade.{KvMade}
 use Rattle.mq_kv_entries.specs.Groups.{GroupLooks, IsDone}
 use Rattle.mq_kv_entries.proofs.GroupsDone.{differs-looked}
-use Rattle.mq_kv_entries.proofs.Members.{cons-cases, cons-here, cons-there, none-contained}
+use Rattle.mq_sessions.proofs.Members.{cons-cases, cons-here, cons-there, none-contained}
 use Rattle.mq_ledger.specs.History.{change_of, map_after}
 use Rattle.mq_ledger.specs.KnownJournal.{KnownJournal, MayDraw, front}
 use Rattle.mq_ledger.specs.declared.tx.Tx.{Tx}

@@ -11,11 +11,13 @@ use Rattle.mq_kv_buckets.specs.declared.operation.KvReply.{KvReply}
 use Rattle.mq_kv_buckets.proofs.BucketsChecked.{formed}
 use Rattle.mq_kv_buckets.proofs.StepsTaken.{zeros-bucket}
 use Rattle.mq_blocks.specs.Blocks.{zeros}
-use Rattle.mq_kv_entries.specs.Groups.{AgreesWith, AreAllMissing, GroupLooks, IsDifference, IsDone, IsPossible, held_map, held_pages, joined}
+use Rattle.mq_kv_entries.specs.Groups.{AreAllMissing, GroupLooks, IsDifference, IsDone, IsPossible, held_map, joined}
+use Rattle.mq_sessions.specs.Executors.{AgreesWith}
+use Rattle.mq_sessions.specs.Pages.{held_pages}
 use Rattle.mq_kv_entries.specs.Working.{HasRun, changed_of, held_of, now, was}
 use Rattle.mq_kv_entries.specs.declared.working.Working.{Working}
 use Rattle.mq_kv_entries.proofs.LawsAlike.{does-alike, group-looks-or-not, untouched}
-use Rattle.mq_kv_entries.proofs.Members.{none-contained}
+use Rattle.mq_sessions.proofs.Members.{none-contained}
 use Rattle.mq_pages.specs.Held.{Cells}
 use Rattle.mq_pages.specs.declared.page.Write.{Write}
 

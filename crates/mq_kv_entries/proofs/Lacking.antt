@@ -6,8 +6,9 @@ use Rattle.std.proofs.lemmas.List.{take_more}
 use Rattle.std.proofs.lemmas.List.Elements.{Contains-append_cases, Contains-append_left, Contains-append_right}
 use Rattle.mq_kv_buckets.specs.Store.{is_key, key_of}
 use Rattle.mq_kv_buckets.specs.declared.operation.KvOp.{KvOp}
-use Rattle.mq_kv_entries.specs.Groups.{AreLacking, GroupLooks, LooksAt, LooksAtHeld, held_pages}
-use Rattle.mq_kv_entries.proofs.Members.{cons-cases, cons-here, none-contained}
+use Rattle.mq_kv_entries.specs.Groups.{AreLacking, GroupLooks, LooksAt, LooksAtHeld}
+use Rattle.mq_sessions.specs.Pages.{held_pages}
+use Rattle.mq_sessions.proofs.Members.{cons-cases, cons-here, none-contained}
 use Rattle.mq_pages.specs.Held.{Cells}
 
 pub lacking-none : (buckets : ℕ) (cells : Cells) → AreLacking buckets cells [] []

@@ -15,7 +15,7 @@ use Rattle.mq_kv_buckets.specs.declared.operation.KvReply.{KvReply}
 use Rattle.mq_kv_buckets.specs.declared.operation.KvReply.TheVariants.{Done, Refused}
 use Rattle.mq_kv_entries.specs.Groups.{GroupLooks, LooksAt}
 use Rattle.mq_kv_entries.specs.GroupLaws.{DoesAlike}
-use Rattle.mq_kv_entries.proofs.Members.{cons-cases, cons-here, cons-there, none-contained}
+use Rattle.mq_sessions.proofs.Members.{cons-cases, cons-here, cons-there, none-contained}
 
 -- ---- what is looked at
 

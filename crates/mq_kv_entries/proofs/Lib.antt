@@ -1,5 +1,4 @@
 pub mod Entries
-pub mod Members
 pub mod LawsAlike
 pub mod WorkingStepped
 pub mod GroupsDone

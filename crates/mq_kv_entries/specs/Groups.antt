@@ -9,20 +9,13 @@ use Rattle.mq_kv_buckets.specs.declared.operation.KvOp.{KvOp}
 use Rattle.mq_kv_buckets.specs.declared.operation.KvReply.{KvReply}
 use Rattle.mq_kv_entries.specs.declared.outcome.KvOutcome.{KvOutcome}
 use Rattle.mq_kv_entries.specs.declared.outcome.KvOutcome.TheVariants.{Done, Need}
-use Rattle.mq_pages.specs.Held.{Cells, cell_of}
+use Rattle.mq_pages.specs.Held.{Cells}
 use Rattle.mq_pages.specs.declared.page.Kind.TheVariants.{Meta}
-use Rattle.mq_pages.specs.declared.page.PageCell.{PageCell}
 use Rattle.mq_pages.specs.declared.page.Write.{Write}
+use Rattle.mq_sessions.specs.Executors.{AgreesWith}
+use Rattle.mq_sessions.specs.Pages.{held_pages}
 
 -- ---- held buckets
-
-abbrev pub page_in : Option PageCell → Option (Option (List ℕ))
-page_in None = None
-page_in (Some cell) = Some cell.content
-
--- what is known of each block: nothing, that it is absent, or its content
-abbrev pub held_pages : Cells → ℕ → Option (Option (List ℕ))
-held_pages cells b = page_in (cell_of cells b)
 
 abbrev pub joined : Option (Option (List ℕ)) → Option (List ℕ)
 joined None = None
@@ -31,10 +24,6 @@ joined (Some page) = page
 -- the held buckets as a map, in which all others are absent
 abbrev pub held_map : Cells → Map
 held_map cells b = joined (held_pages cells b)
-
--- the held pages are those of the map
-abbrev pub AgreesWith : Cells → Map → Type 0
-AgreesWith cells m = (b : ℕ) (page : Option (List ℕ)) → held_pages cells b ≡ Some page → m b ≡ page
 
 -- They are those of some map whose buckets are in their form.
 abbrev pub IsPossible : ℕ → Cells → Type 0

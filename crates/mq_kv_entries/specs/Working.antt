@@ -5,7 +5,8 @@ use Rattle.std.specs.Ordering.{nat_cmp}
 use Rattle.mq_blocks.specs.Machine.{Map, or_kept}
 use Rattle.mq_kv_buckets.specs.Store.{map_after_ops, map_on}
 use Rattle.mq_kv_buckets.specs.declared.operation.KvOp.{KvOp}
-use Rattle.mq_kv_entries.specs.Groups.{held_pages, joined}
+use Rattle.mq_kv_entries.specs.Groups.{joined}
+use Rattle.mq_sessions.specs.Pages.{held_pages}
 use Rattle.mq_kv_entries.specs.declared.working.Working.{Working}
 
 -- what was put by the operations before

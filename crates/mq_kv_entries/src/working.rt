@@ -2,7 +2,8 @@
 ghost use Rattle.std.specs.Prelude.{◌≡◌, ◌≢◌, ℕ, IfOk, OnOk, Some, None};
 ghost use Rattle.std.specs.Option.{option_copied};
 ghost use Rattle.mq_blocks.specs.Blocks.{content};
-ghost use Rattle.mq_kv_entries.specs.Groups.{held_map, held_pages, joined};
+ghost use Rattle.mq_kv_entries.specs.Groups.{held_map, joined};
+ghost use Rattle.mq_sessions.specs.Pages.{held_pages};
 ghost use Rattle.mq_kv_entries.specs.Working.{IsKept, IsPut, changed_of, held_of, now};
 
 use mq_blocks::{Block, BlockNo, OutOfMemory};

@@ -3,7 +3,7 @@ use Rattle.std.proofs.Common.{◌≡◌, ◌∙◌, ℕ, suc, ◌+◌, ◌<◌, 
 use Rattle.std.specs.Prelude.{Option, None, Some}
 use Rattle.std.proofs.lemmas.List.{length-map}
 use Rattle.mq_blocks.proofs.JournalAmong.{among-contains, among-here}
-use Rattle.mq_kv_entries.proofs.Members.{cons-cases, none-contained}
+use Rattle.mq_sessions.proofs.Members.{cons-cases, none-contained}
 use Rattle.mq_nvme.specs.Says.{journal_reading}
 use Rattle.mq_blocks.specs.Descriptor.{Descriptor}
 use Rattle.mq_blocks.specs.Drive.{PortImage, PortState}

@@ -24,7 +24,7 @@ use Rattle.mq_kv_buckets.specs.declared.operation.KvOp.{KvOp}
 use Rattle.mq_kv_entries.specs.Calls.{store_calls}
 use Rattle.mq_kv_entries.specs.Group.{store_group}
 use Rattle.mq_kv_entries.specs.declared.entry.KvEntry.{KvEntry}
-use Rattle.mq_kv_entries.proofs.Members.{cons-cases, cons-here, cons-there, none-contained}
+use Rattle.mq_sessions.proofs.Members.{cons-cases, cons-here, cons-there, none-contained}
 use Rattle.mq_image_run.specs.Drives.{emu_ghosts}
 use Rattle.mq_image_run.specs.Limits.{AreWithin}
 use Rattle.mq_image_run.proofs.Powered.{none-behind, unfailed}

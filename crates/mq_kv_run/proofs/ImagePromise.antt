@@ -5,7 +5,7 @@ use Rattle.mq_blocks.specs.declared.geometry.Geometry.{Geometry}
 use Rattle.mq_drive.specs.Emu.{emu_faults, emu_state}
 use Rattle.mq_image.specs.File.{DriveImage}
 use Rattle.mq_kv_buckets.specs.declared.operation.KvOp.{KvOp}
-use Rattle.mq_kv_entries.proofs.Members.{cons-here, cons-there}
+use Rattle.mq_sessions.proofs.Members.{cons-here, cons-there}
 use Rattle.mq_kv_run.specs.Images.{LeavesImage, desk_of, seat_of}
 use Rattle.mq_kv_run.specs.Trails.{FollowsTold, IsNewest}
 use Rattle.mq_kv_run.proofs.ImagePower.{ends, gone-off, holds}

@@ -26,7 +26,7 @@ use Rattle.mq_kv_buckets.specs.declared.operation.KvOp.{KvOp}
 use Rattle.mq_kv_entries.proofs.Entries.{meta-home}
 use Rattle.mq_kv_entries.specs.Group.{store_group}
 use Rattle.mq_kv_entries.specs.declared.entry.KvEntry.{KvEntry}
-use Rattle.mq_kv_entries.proofs.Members.{cons-here}
+use Rattle.mq_sessions.proofs.Members.{cons-here}
 use Rattle.mq_image_run.specs.Drives.{IsDriven, emu_ghosts}
 use Rattle.mq_kv_run.specs.Drives.{PlaysGroups, with_told}
 use Rattle.mq_kv_run.specs.Endings.{drive_options, finishes}

@@ -7,7 +7,7 @@ use Rattle.mq_blocks.proofs.JournalAmong.{among-behind, among-here}
 use Rattle.mq_desk_laws.specs.Rule.{numbered}
 use Rattle.mq_kv_entries.specs.Entries.{IsAllLogged, placed_by, tx_of, written_by}
 use Rattle.mq_kv_entries.specs.declared.entry.KvEntry.{KvEntry}
-use Rattle.mq_kv_entries.proofs.Members.{cons-cases, cons-here, cons-there, none-contained}
+use Rattle.mq_sessions.proofs.Members.{cons-cases, cons-here, cons-there, none-contained}
 use Rattle.mq_kv_run.specs.Groups.{entries_for}
 use Rattle.mq_ledger.specs.History.{writes}
 use Rattle.mq_ledger.specs.Items.{descriptor_blocks}

@@ -37,7 +37,7 @@ pub use keeps::{
     things_are_removed, things_are_renamed,
 };
 pub use laws::{a_listing_has_each_path, alike_trees, clean_blocks, empty_tree, one_tree};
-pub use mounts::{mount, mount_by_phases};
+pub use mounts::{are_pages, mount, mount_by_phases};
 pub use path::{Bytes, Name, Names, Path};
 pub use request::{Fault, Reply, Request, changes};
 pub use tree::Tree;

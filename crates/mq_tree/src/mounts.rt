@@ -27,7 +27,7 @@ fn are_bytes(bytes: &[u8])
 
 /// Serves proofs alone: no form says of all items of a slice what a call says of one, so each stored block
 /// is passed once.
-fn are_pages(blocks: &[Option<Block>])
+pub fn are_pages(blocks: &[Option<Block>])
     ensures { ArePages blocks.now }
 {
     for block in blocks {

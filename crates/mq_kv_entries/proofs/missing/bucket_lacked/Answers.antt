@@ -1,5 +1,5 @@
 use Rattle.std.proofs.Common.{sym, ap, ◌∙◌}
-use Rattle.mq_kv_entries.specs.Groups.{page_in}
+use Rattle.mq_sessions.specs.Pages.{page_in}
 use Rattle.mq_kv_entries.proofs.Lacking.{held-looked, looks-none}
 use Rattle.mq_kv_entries.proofs.missing.bucket_lacked.Goals as goal
 

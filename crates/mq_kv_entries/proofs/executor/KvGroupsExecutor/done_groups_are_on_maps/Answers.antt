@@ -1,4 +1,4 @@
-use Rattle.mq_kv_entries.proofs.Members.{none-contained}
+use Rattle.mq_sessions.proofs.Members.{none-contained}
 use Rattle.mq_kv_entries.proofs.executor.KvGroupsExecutor.done_groups_are_on_maps.Goals as goal
 
 pub returns : goal.returns
