@@ -42,6 +42,16 @@ cuts the power, recovers, and prints what stands.
   --save NAME   saves the image that the cut left, before the recovery
   --trace NAME  saves the trace of the events up to the cut
 
+The items of a line are separated by one space, and name each block once:
+
+  5=ab 7=01     sets block 5 to 4096 bytes ab and block 7 to 4096 bytes 01
+  -7 9=ff       frees block 7 and sets block 9; blocks are 0 to 255
+
+All lines take at most 1024 places, one for each set block and each line.
+
+Status: 0 done, 2 a line that is not in the form, 4 a file or the output failed
+or a file is too long, 6 out of memory.
+
 Example: mqfs blocks examples/frees.txt --cut 10
 "
 }
@@ -52,9 +62,17 @@ fn format_text() -> &'static str
 {
     "mqfs format IMAGE QUEUES AREA META ZONE
 
-Saves as IMAGE a fresh drive with an empty file system. The numbers are the
-queues, the blocks of each queue's journal area, the blocks of metadata, and
-the blocks of each queue's zone of data.
+Saves as IMAGE a fresh drive with an empty file system. The numbers are:
+
+  QUEUES  the queues, 1 to 16: so many sessions can commit at once
+  AREA    the blocks of each queue's journal area, 1024 to 16384
+  META    the blocks of metadata, at least QUEUES + 3
+  ZONE    the blocks of each queue's zone of data, at least 1
+
+META + QUEUES * ZONE is at most 32768. A block has 4096 bytes.
+
+Status: 0 done, 3 a number is out of its range, 4 the image could not be saved
+or the output failed, 6 out of memory.
 
 Example: mqfs format d 2 1024 64 256
 "
@@ -73,6 +91,30 @@ own, saves what that left as IMAGE, and prints a report.
   --pick S     chooses the order of commands and what a cut leaves, else 0
   --fail Q:N   command N of port Q, counted from 1, ends with an error
 
+A SCRIPT has a request on each line, its words one space apart, and a line that
+ends each group. A group is carried out whole or not at all. Paths begin with /.
+
+  mkdir /a                a new directory
+  create /a/f             a new empty file
+  write /a/f 0 \"hi\"       bytes from offset 0 on; a gap before is filled with 0
+  write /a/f 2 hex:6869   bytes in hexadecimal
+  write /a/f 4 fill:7a:9  9 times the byte 7a
+  truncate /a/f 8         the file cut, or filled with zeros, to 8 bytes
+  link /a/f /g            a further name, the second, for a file
+  rename /g /h            a file or directory moved; the new name must be free
+  read /a/f 0 8           8 bytes from offset 0 on
+  list /a                 the names in a directory
+  fsync                   ends a group: what is answered ok survives any cut
+  unlink /a/f             a name of a file gone, with the last one the file
+  rmdir /a                an empty directory gone
+  fatomic                 ends a group: whole or not at all, durable later
+  stat /h                 how long a file is, or how many names a directory has
+  ask                     ends a group that may only look
+
+Status: 0 done, 2 a script is not in the form or there are too many, 3 the image
+is refused, 4 a file or the output failed or a file is too long, 5 the command
+of --fail was executed, 6 out of memory.
+
 Example: mqfs run d a b --cut 40
 "
 }
@@ -89,6 +131,9 @@ transactions stood on it and its base.
   --cut K      the power goes off after K events of the recovery, if it has more
   --pick S     chooses what a cut leaves of what is not certain, else 0
 
+Status: 0 done, 3 the image is refused, 4 a file or the output failed or a file
+is too long, 6 out of memory.
+
 Example: mqfs recover d --cut 3
 "
 }
@@ -99,7 +144,11 @@ fn ls_text() -> &'static str
 {
     "mqfs ls IMAGE
 
-Prints the tree of files that stands on IMAGE. Nothing is saved.
+Prints the tree of files that stands on IMAGE: a line \"d PATH\" for each
+directory and \"f SIZE PATH\" for each file. Nothing is saved.
+
+Status: 0 done, 3 the image is refused, 4 a file or the output failed or a file
+is too long, 6 out of memory.
 
 Example: mqfs ls d
 "
@@ -113,6 +162,9 @@ fn cat_text() -> &'static str
 
 Prints the bytes of the file at PATH of the tree that stands on IMAGE. PATH
 begins with a slash. Nothing is saved.
+
+Status: 0 done, 3 the image or the path is refused, 4 a file or the output
+failed or a file is too long, 6 out of memory.
 
 Example: mqfs cat d /a/f
 "
@@ -130,6 +182,9 @@ of files then has.
 
   --save NAME  saves the image that a cut at the end of the sessions leaves
 
+Status: 0 done, 4 the image could not be saved or the output failed, 6 out of
+memory.
+
 Example: mqfs gen 7 4 2000
 "
 }
@@ -142,6 +197,9 @@ fn dump_text() -> &'static str
 
 Prints the words and the chains of transactions of IMAGE, and how many of them
 stand. Nothing is saved.
+
+Status: 0 done, 3 the image is refused, 4 a file or the output failed or a file
+is too long, 6 out of memory.
 
 Example: mqfs dump d
 "
@@ -157,6 +215,9 @@ Checks the home blocks that stand on IMAGE: prints how many directories, files
 and blocks their file system has, or what is wrong with it first. Nothing is
 saved.
 
+Status: 0 done, whatever it found, 3 the image is refused, 4 a file or the
+output failed or a file is too long, 6 out of memory.
+
 Example: mqfs check d
 "
 }
@@ -171,7 +232,31 @@ Runs the events of TRACE on the state machine of the journal: prints how many it
 took and which transactions a cut after them may leave, or the line of the first
 that it does not allow. Nothing is saved.
 
-Example: mqfs audit t
+The first two lines are the drive and its live blocks, and each further line is
+an event, in the order in which they happened:
+
+  geometry 2 1024 64 256 0   queues, area, metadata, zone, base
+  start 65=11                block 65 is live, and its first byte is 11
+  clear 0 1                  queue 0 has done all its numbers below 1
+  draw 0 logged 65=22 direct revoked freed
+                             number 1 is queue 0's, and logs block 65
+  stage 0                    an entry of queue 0 is in its ring
+  flush 0                    the entries of queue 0 are durable
+  ring 0                     the doorbell of queue 0 is to be written
+  complete 0 2               command 2 of queue 0, from 0, has succeeded
+  failed 0 2                 or it has failed
+  storehead 0 2              the head of queue 0 is to be written: 2
+  flushhead 0                the head of queue 0 is durable
+  ack 1                      somebody is told that all up to 1 survives
+  home 65, homedone 65       block 65 is written home: begun, and done
+  storebase 1, flushbase     the base is to be written: 1; it is durable
+
+Two digits behind a block stand for its contents: one byte, or a checksum.
+
+Status: 0 done, whatever it found, 2 a line is not in the form, 4 a file or the
+output failed or a file is too long, 6 out of memory.
+
+Example: mqfs audit examples/driver.txt
 "
 }
 
@@ -183,10 +268,14 @@ fn replicate_text() -> &'static str
 
 Sends each line of the block text FILE as an update to a replica on a fresh
 drive, over a link that loses and repeats updates, and prints how many the
-replica has reached and the blocks that stand on it.
+replica has reached and the blocks that stand on it. For the lines of FILE see
+mqfs blocks --help.
 
   --seed S     chooses what the link loses and repeats, else 0
   --save NAME  saves the image of the replica
+
+Status: 0 done, 2 a line that is not in the form, 4 a file or the output failed
+or a file is too long, 6 out of memory.
 
 Example: mqfs replicate examples/frees.txt --seed 3
 "
@@ -206,6 +295,13 @@ the blocks that these leave.
   --cut K      the power goes off after K events, else at the end
   --pick S     chooses what a cut leaves of what is not certain, else 0
   --save NAME  saves the image that the cut left
+
+  0 5=ab 7=01   queue 0 sets block 5 to bytes ab and block 7 to bytes 01
+  1 -7          queue 1 frees block 7; queues are 0 to 3, blocks 0 to 255
+  done 0        queue 0 waits for all that it sent
+
+Status: 0 done, 2 a line that is not in the form, 4 a file or the output failed
+or a file is too long, 6 out of memory.
 
 Example: mqfs loose examples/loose.txt --cut 9
 "

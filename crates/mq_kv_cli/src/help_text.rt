@@ -23,7 +23,11 @@ fn new_text() -> &'static str
 {
     "mq_kv_tool new IMAGE
 
-Saves as IMAGE a fresh drive with an empty store.
+Saves as IMAGE a fresh drive with an empty store: one queue, and 64 buckets of
+4096 bytes, over which the keys are spread.
+
+Status: 0 done, 4 the image could not be saved or the output failed, 6 out of
+memory.
 
 Example: mq_kv_tool new d
 "
@@ -36,11 +40,26 @@ fn apply_text() -> &'static str
     "mq_kv_tool apply IMAGE FILE [--cut K] [--pick S]
 
 Recovers the drive of IMAGE, does the groups of FILE one after another, saves
-what that left as IMAGE, and prints a report. Each line of FILE is put KEY VALUE,
-del KEY, get KEY, or sync, which ends a group. A group is done whole or not at all.
+what that left as IMAGE, and prints a report.
 
   --cut K      the power goes off after K events, or at the end of the groups
   --pick S     chooses the order of commands and what a cut leaves, else 0
+
+Each line of FILE is an operation, or ends a group, which is done whole or not
+at all. The last line ends a group.
+
+  put alice 100   the key alice has the value 100 from now on
+  get alice       prints value 100
+  del alice       the key is gone; where it is not there, prints missing
+  sync            ends a group: what is printed as synced survives any cut
+
+Keys and values are words of visible ASCII: a key of 1 to 255 bytes, a value of
+1 to 1024. A bucket has room for 4096 bytes, 4 for each key, the key, and its
+value. An operation that does not fit is refused, and the others are done.
+
+Status: 0 done, refused and large groups too, 2 a line that is not in the form,
+3 the image is refused, 4 a file or the output failed or a file is too long,
+6 out of memory.
 
 Example: mq_kv_tool apply d f --cut 8
 "
