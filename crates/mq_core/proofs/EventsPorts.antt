@@ -1,5 +1,5 @@
 -- Where the blocks of a port lie, and what stays certainly at its place through each event.
-use Rattle.std.proofs.Common.{◌≡◌, ◌≢◌, ℕ, ◌+◌, ◌-◌, ◌*◌, ◌%◌, ◌<◌, ◌≤◌, true, false, List, length, get_or, Option, Some, None, refl, sym, ap, ◌∙◌, inl, inr, arith}
+use Rattle.std.proofs.Common.{◌≡◌, ◌≢◌, ℕ, ◌+◌, ◌-◌, ◌*◌, ◌%◌, ◌<◌, ◌≤◌, true, false, List, length, get_or, Some, None, refl, sym, ap, ◌∙◌, inl, inr, arith}
 use Rattle.std.proofs.lemmas.Bool.{cases_lt, lt-ltb, le-ltb}
 use Rattle.std.proofs.lemmas.List.{get_or-set_same, get_or-set_other}
 use Rattle.std.proofs.lemmas.Nat.{mod_below, mul-add-lt}
@@ -7,7 +7,7 @@ use Rattle.std.specs.List.{remove}
 use Rattle.mq_blocks.specs.Blocks.{block_at, content}
 use Rattle.mq_blocks.specs.Drive.{PortState, IsApartFrom, index_of, after_ring}
 use Rattle.mq_blocks.specs.Geometry.{homes_of, zone_of, home_lba, area_lba}
-use Rattle.mq_blocks.specs.Ports.{IsPort, slots_of}
+use Rattle.mq_blocks.specs.Ports.{IsPort}
 use Rattle.mq_blocks.specs.declared.command.Command.{Command}
 use Rattle.mq_blocks.specs.declared.geometry.Geometry.{Geometry}
 use Rattle.mq_blocks.proofs.GeometryZones.{zone-row}

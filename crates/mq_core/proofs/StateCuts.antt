@@ -1,6 +1,5 @@
 -- What a power cut leaves of a state that has the facts: words, entries, copies and home blocks.
 use Rattle.std.proofs.Common.{◌≡◌, ℕ, ◌+◌, ◌-◌, ◌*◌, ◌<◌, ◌≤◌, ◌%◌, ltb, eqb, Bool, true, false, List, [], ◌∷◌, length, is_some, Option, Some, None, cond, sym, refl, ap, subst, ◌∙◌, inl, inr, arith}
-use Rattle.std.proofs.lemmas.List.{length-map}
 use Rattle.std.proofs.lemmas.Bool.{cases_lt, cases_Bool, lt-ltb, eq-eqb, or_left, or_right, false≢true}
 use Rattle.mq_blocks.specs.Blocks.{block_at}
 use Rattle.mq_blocks.specs.Limits.{depth}

@@ -1,5 +1,5 @@
 -- A state that has the facts is safe: the chains of an image, its prefix, and what it stands for.
-use Rattle.std.proofs.Common.{◌≡◌, ◌≢◌, ℕ, ◌+◌, ◌-◌, ◌<◌, ◌≤◌, ◌%◌, leb, Bool, true, false, List, [], ◌∷◌, length, Some, sym, refl, ap, subst, ◌∙◌, inl, inr, arith}
+use Rattle.std.proofs.Common.{◌≡◌, ℕ, ◌+◌, ◌-◌, ◌<◌, ◌≤◌, ◌%◌, leb, Bool, true, List, [], ◌∷◌, length, Some, sym, refl, ap, subst, ◌∙◌, inl, inr, arith}
 use Rattle.std.proofs.lemmas.List.{length-map}
 use Rattle.std.proofs.lemmas.Bool.{cases_lt, cases_eq, cases_Bool, le-leb, leb-true, or_cases, or_right, false≢true}
 use Rattle.mq_blocks.specs.Descriptor.{Descriptor, DescriptorForm, IsDescriptor, IsGood, IsReadOnce, further_for}

@@ -1,6 +1,6 @@
 -- What each event changes of a port, of what is known, and of the whole state, and where it is
 -- allowed.
-use Rattle.std.specs.Prelude.{◌≡◌, ◌<◌, ◌≤◌, ℕ, suc, ◌+◌, ◌-◌, ◌%◌, ◌^◌, Bool, true, false, List, [], ◌∷◌, length, Option, Some, None, nat_eq, slice_set, if◌then◌else◌}
+use Rattle.std.specs.Prelude.{◌≡◌, ◌<◌, ◌≤◌, ℕ, suc, ◌+◌, ◌-◌, ◌%◌, ◌^◌, true, false, List, [], ◌∷◌, length, Option, Some, None, nat_eq, slice_set, if◌then◌else◌}
 use Rattle.mq_blocks.specs.Blocks.{content}
 use Rattle.mq_blocks.specs.Limits.{depth, usable_depth}
 use Rattle.mq_blocks.specs.Drive.{PortState, AreFrom, staged_end, after_stage, after_flush, after_ring, after_done, after_failed, after_store_head, after_store_base, after_begin, after_end}

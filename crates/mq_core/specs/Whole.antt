@@ -1,5 +1,5 @@
 -- The transactions that an image shows whole.
-use Rattle.std.specs.Prelude.{ℕ, ◌+◌, ◌||◌, Bool, List, nat_le}
+use Rattle.std.specs.Prelude.{◌+◌, ◌||◌, Bool, List, nat_le}
 use Rattle.mq_blocks.specs.Journal.{Shown}
 use Rattle.mq_ledger.specs.History.{writes, of_queue}
 use Rattle.mq_ledger.specs.Items.{end_of, descriptor_blocks}

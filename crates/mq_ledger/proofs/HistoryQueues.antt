@@ -4,7 +4,7 @@ use Rattle.std.proofs.lemmas.Bool.{cases_lt, cases_eq}
 use Rattle.mq_ledger.specs.History.{writes, upto, of_queue, AreNumbered, IsAt}
 use Rattle.mq_ledger.specs.Items.{total, end_of, next, below, number_before, descriptor_blocks}
 use Rattle.mq_ledger.specs.declared.tx.Tx.{Tx}
-use Rattle.mq_ledger.proofs.History.{upto-at, upto-past}
+use Rattle.mq_ledger.proofs.History.{upto-past}
 use Rattle.mq_ledger.proofs.Items.{below-at, below-past, of_queue-own, of_queue-other, next_upto, total_upto}
 
 -- of one queue, and the numbers fall

@@ -8,6 +8,7 @@ mod TablesRows
 mod RecordsLists
 mod ItemsStagings
 pub mod TablesLedgers
+mod TablesStarts
 mod RecordsLookups
 mod RecordsStages
 mod RecordsNexts

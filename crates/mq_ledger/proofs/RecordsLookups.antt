@@ -1,9 +1,8 @@
 -- What a look into a ledger's tables answers.
-use Rattle.std.proofs.Common.{◌≡◌, ℕ, ◌+◌, ◌<◌, ◌≤◌, leb, List, [], ◌∷◌, length, reverse, Option, get_or, sym, ap, subst, ◌∙◌, inl, inr, arith}
-use Rattle.std.proofs.lemmas.Bool.{cases_Bool}
+use Rattle.std.proofs.Common.{◌≡◌, ℕ, ◌+◌, ◌<◌, ◌≤◌, List, [], ◌∷◌, length, reverse, Option, get_or, sym, ap, subst, ◌∙◌, arith}
 use Rattle.std.proofs.lemmas.List.{length-reverse, reverse-reverse, get_or_read}
 use Rattle.mq_ledger.specs.History.{writes, upto, of_queue, IsAt, IsPart, AreNumbered}
-use Rattle.mq_ledger.specs.Items.{end_of, next, below, descriptor_blocks}
+use Rattle.mq_ledger.specs.Items.{end_of, below, descriptor_blocks}
 use Rattle.mq_ledger.specs.Records.{Ledger, own, from_of, IsClear}
 use Rattle.mq_ledger.specs.State.{from_at}
 use Rattle.mq_ledger.specs.Tables.{AreTables, AreLatest, IsLatest, latest_at, no_latest, HasTables, ledger_of, row_of, rows_of, row_before, no_row, rows_from, ends_by, is_up_to, ends_of}

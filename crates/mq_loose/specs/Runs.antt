@@ -5,8 +5,9 @@ use Rattle.mq_ledger.specs.Items.{Entries}
 use Rattle.mq_ledger.specs.State.{State, from_at, port_at}
 use Rattle.mq_core.specs.Events.{us_of, MayStage, MayFlush, MayRing, MayEnd, MayStoreHead, MayStoreBase}
 use Rattle.mq_core.specs.declared.event.CoreRefusal.{CoreRefusal}
-use Rattle.mq_core.specs.Machine as journal
-use Rattle.mq_core.specs.Machine.{Event}
+use Rattle.mq_core.specs.Machine as machine
+use Rattle.mq_core.specs.declared.event.Event.{Event}
+use Rattle.mq_core.specs.declared.event.Event.TheVariants as journal
 use Rattle.mq_core.specs.Runs.{run_by, AreAllowedBy, HoldsAlways, IsRefusedBy, IsRefusalBy}
 use Rattle.mq_loose.specs.Guards.{entries_in, settled, tx_of, MayDrawLoose, MayWriteHome}
 use Rattle.mq_loose.specs.Safe.{IsSafe}
@@ -30,7 +31,7 @@ event_of (StoreBase b) = journal.StoreBase b
 event_of FlushBase = journal.FlushBase
 
 abbrev pub happens : Entries → LooseEvent → State → State
-happens e v s = journal.happens (entries_in e s) (event_of v) s
+happens e v s = machine.happens (entries_in e s) (event_of v) s
 
 abbrev pub IsAllowed : Entries → LooseEvent → State → Type 0
 IsAllowed e (Draw t) s = MayDrawLoose e s (tx_of t) t.deps

@@ -1,4 +1,4 @@
-use Rattle.std.proofs.Common.{◌≡◌, ◌∷◌, Ok, Err, Result, IsSome, sym, refl, ap, subst, reverse}
+use Rattle.std.proofs.Common.{◌∷◌, Ok, Err, Result, IsSome, sym, refl, subst, reverse}
 use Rattle.std.proofs.lemmas.Result.{err_from_is_err_and}
 use Rattle.mq_ledger.specs.Plain.{plain}
 use Rattle.mq_ledger.specs.State.{State}

@@ -1,4 +1,3 @@
-use Rattle.std.proofs.Common.{refl}
 use Rattle.mq_core.proofs.machine.bases.store_base.Goals as goal
 
 pub returns : goal.returns

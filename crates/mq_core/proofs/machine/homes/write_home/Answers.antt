@@ -28,11 +28,11 @@ returns-clause-begun c =
     let ports_are : ports_after Begun zone c.args.ports.now.items ≡ ports_after (begin_home l.geometry x (content_at (parts l c.args.ports.now.items c.args.root.now) x)) (zone_of l.geometry x) c.args.ports.now.items = (λ i. ports_after (begin_home (c.geometry.ensures i) x (c.in_ok-content.ensures i)) (zone_of (c.geometry.ensures i) x) c.args.ports.now.items) in
     let root_is : root_after Begun zone c.args.root.now ≡ root_after (begin_home l.geometry x (content_at (parts l c.args.ports.now.items c.args.root.now) x)) (zone_of l.geometry x) c.args.root.now = (λ i. root_after (begin_home (c.geometry.ensures i) x (c.in_ok-content.ensures i)) (zone_of (c.geometry.ensures i) x) c.args.root.now) in
     let join : c.begin_write.new.ports.items ≡ ports_after Begun zone c.args.ports.now.items → c.begin_write.new.root ≡ root_after Begun zone c.args.root.now → c.begin_write.new.writing.items ≡ c.args.writing.now.items ++ x ∷ []
-        → under l c.begin_write.new.ports.items c.begin_write.new.root c.begin_write.new.writing.items ≡ home_begun l c.args.ports.now.items c.args.root.now c.args.writing.now.items x = λ p r w.
-        let ports = p ∙ ports_are in
-        let root = r ∙ root_is in
-        let writing = ap reverse w ∙ reverse_push c.args.writing.now.items x in
-        λ i. state_with l (ports i) (root i) [] (writing i) [] in
+    → under l c.begin_write.new.ports.items c.begin_write.new.root c.begin_write.new.writing.items ≡ home_begun l c.args.ports.now.items c.args.root.now c.args.writing.now.items x = λ p r w.
+    let ports = p ∙ ports_are in
+    let root = r ∙ root_is in
+    let writing = ap reverse w ∙ reverse_push c.args.writing.now.items x in
+    λ i. state_with l (ports i) (root i) [] (writing i) [] in
     all_ok c.begin_write.result join e.ports e.root e.writing
 
 pub returns-clause-refused : goal.returns-clause-refused

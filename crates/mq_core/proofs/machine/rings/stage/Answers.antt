@@ -1,4 +1,4 @@
-use Rattle.std.proofs.Common.{◌≡◌, ◌<◌, ◌^◌, length, set, sym, ap, subst, ◌∙◌, arith}
+use Rattle.std.proofs.Common.{◌≡◌, ◌<◌, ◌^◌, length, sym, ap, subst, ◌∙◌, arith}
 use Rattle.mq_blocks.specs.Drive.{PortState, staged_end}
 use Rattle.mq_ledger.specs.State.{port_at}
 use Rattle.mq_core.proofs.MachineParts.{same, small}

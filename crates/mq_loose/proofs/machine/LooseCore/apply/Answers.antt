@@ -1,5 +1,5 @@
-use Rattle.std.proofs.Common.{◌≡◌, ◌<◌, true, Ok, Err, IsSome, set, sym, refl, subst, ◌∙◌, reverse, arith}
-use Rattle.mq_blocks.specs.Drive.{PortState, after_flush, after_ring, after_store_base, after_store_head}
+use Rattle.std.proofs.Common.{◌≡◌, ◌<◌, true, Ok, IsSome, set, sym, refl, subst, ◌∙◌, reverse, arith}
+use Rattle.mq_blocks.specs.Drive.{after_flush, after_ring, after_store_base, after_store_head}
 use Rattle.mq_blocks.specs.Journal.{is_among}
 use Rattle.mq_ledger.specs.Plain.{plain}
 use Rattle.mq_ledger.specs.Records.{Ledger}
