@@ -1,5 +1,5 @@
 use Rattle.std.proofs.Common.{◌≡◌, ◌+◌, ◌++◌, ◌∷◌, [], map, take, length, ap, sym, ◌∙◌, arith}
-use Rattle.std.proofs.lemmas.List.{length_push, map_more}
+use Rattle.std.proofs.lemmas.List.{length_push, map_more, take_all}
 use Rattle.mq_tie.proofs.closing.done_of.Goals as goal
 
 pub push_reserved-requires : goal.push_reserved-requires
@@ -19,3 +19,6 @@ loop-side-preserved g c =
       long = omega arith;
       room = omega arith;
     }
+
+pub returns : goal.returns
+returns g c = c.loop-side.invariant.made ∙ ap (map (λ s. s.done)) (take_all c.loop-side.side-index c.args.sides.now c.loop-side-test.false)
