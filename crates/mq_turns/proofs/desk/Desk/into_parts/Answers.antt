@@ -1,4 +1,4 @@
-use Rattle.std.proofs.Common.{rules, arith, ◌≡◌, suc, ap, sym, ◌∙◌, map, ◌+◌, length}
+use Rattle.std.proofs.Common.{rules, arith, ◌≡◌, ℕ, suc, ap, sym, refl, subst, ◌∙◌, map, ◌+◌, ◌<◌, ◌≤◌, length}
 use Rattle.std.specs.Slots.{slots_items, slots_counts}
 use lib.ListN.{get_elem?}
 use Rattle.mq_turns.specs.Desk.{slots}
@@ -6,6 +6,50 @@ use Rattle.mq_turns.specs.AtDesk.{view, start_of}
 use Rattle.mq_turns.specs.Closing.{AreSides}
 use Rattle.mq_turns.proofs.DeskEnding.{ends, has_pages, has_sides, has_root, ended}
 use Rattle.mq_turns.proofs.desk.Desk.into_parts.Goals as goal
+
+-- a table's slots are those of its pages, its sides and the root
+all_slots : (len deep n m p s : ℕ) → len ≡ deep → deep ≡ suc (p + s) → n ≡ p → m ≡ s → len ≡ n + m + 1
+all_slots len deep n m p s is slots pages sides = omega arith
+
+first_inside : (len n m : ℕ) → len ≡ n + m + 1 → n < len
+first_inside len n m is = omega arith
+
+last_inside : (len n m : ℕ) → len ≡ n + m + 1 → n + m < len
+last_inside len n m is = omega arith
+
+at_least : (n : ℕ) → n ≤ n
+at_least n = omega arith
+
+-- the counter, a mark for each side, and the base
+counter_inside : (count deep len m : ℕ) → count ≡ deep → len ≡ deep + m + 2 → count < len
+counter_inside count deep len m is words = omega arith
+
+words_inside : (len words deep n m : ℕ) → len ≡ words → words ≡ deep + m + 2 → deep ≡ n + m + 1 → (n + m + 1 < len) × (n + m + m + 2 < len)
+words_inside len words deep n m is all slots = (omega arith, omega arith)
+
+pub gather-one-requires-clause-counter : goal.gather-one-requires-clause-counter
+gather-one-requires-clause-counter g c = (c.slot_count.ensures, counter_inside _ _ _ _ c.slot_count.ensures c.args.self.words)
+
+pub gather-one-requires-clause-some : goal.gather-one-requires-clause-some
+gather-one-requires-clause-some g c = subst (λ (n : ℕ). 0 < n) (sym c.requires.all) c.args.self.some
+
+pub gather-one-requires-clause-theirs : goal.gather-one-requires-clause-theirs
+gather-one-requires-clause-theirs g c = λ k d lt. let h = c.requires.theirs k d lt in (h.0.0, h.1)
+
+pub word-next-requires : goal.word-next-requires
+word-next-requires g c =
+    let deep = all_slots _ _ _ _ _ _ refl c.args.self.slots c.args.self.all_pages c.args.self.all_sides in
+    ((words_inside _ _ _ _ _ c.close_with-closed.ensures.counts.0 c.args.self.words deep).0, c.close_with-closed.ensures.values.0)
+
+pub word-base-requires : goal.word-base-requires
+word-base-requires g c =
+    let deep = all_slots _ _ _ _ _ _ refl c.args.self.slots c.args.self.all_pages c.args.self.all_sides in
+    ((words_inside _ _ _ _ _ c.close_with-closed.ensures.counts.0 c.args.self.words deep).1, c.close_with-closed.ensures.values.0)
+
+pub unload_pages-pages-requires-clause-room : goal.unload_pages-pages-requires-clause-room
+unload_pages-pages-requires-clause-room g c =
+    let deep = all_slots _ _ _ _ _ _ c.close_with-closed.ensures.counts.1 c.args.self.slots c.args.self.all_pages c.args.self.all_sides in
+    (c.in-Ok.ensures.items, c.in-Ok.ensures.capacity, first_inside _ _ _ deep)
 
 pub unload_pages-pages-requires-clause-full : goal.unload_pages-pages-requires-clause-full
 unload_pages-pages-requires-clause-full g c = λ j lt. c.close_with-closed.ensures.values.1 j (omega arith) lt
@@ -65,3 +109,25 @@ returns-clause-ok g c =
     (map (λ ch. view ch) c.args.chairs.items) c.unload_pages-pages.result.items c.unload_sides-sides.result.items c.unload_root-root.result (c.args.self.pages + c.args.self.sides + 1) c.word-next.result c.word-base.result (omega arith) c.word-next.ensures (ap (λ i. get_elem? (slots_items c.close_with-closed.result.words) i) word ∙ c.word-base.ensures)
     pages c.unload_pages-pages.ensures.pages.1 sides are_sides root
     c.gather-one.ensures.all.0 c.gather-one.ensures.all.1 c.gather-one.ensures.order c.gather-one.ensures.charged c.gather-one.ensures.done c.gather-one.ensures.based c.gather-one.ensures.seen
+
+pub unload_sides-sides-requires-clause-room : goal.unload_sides-sides-requires-clause-room
+unload_sides-sides-requires-clause-room g c =
+    let deep = all_slots _ _ _ _ _ _ (c.unload_pages-pages.ensures.same.1 ∙ c.close_with-closed.ensures.counts.1) c.args.self.slots c.args.self.all_pages c.args.self.all_sides in
+    (c.in-Ok-with_capacity.ensures.items, c.in-Ok-with_capacity.ensures.capacity, last_inside _ _ _ deep)
+
+pub unload_sides-sides-requires-clause-full : goal.unload_sides-sides-requires-clause-full
+unload_sides-sides-requires-clause-full g c = λ j lo lt. c.unload_pages-pages.ensures.left j lo (subst (λ (n : ℕ). j < n) c.unload_pages-pages.ensures.same.1 lt)
+
+pub unload_sides-sides-requires-clause-empty : goal.unload_sides-sides-requires-clause-empty
+unload_sides-sides-requires-clause-empty g c = c.unload_pages-pages.ensures.gone
+
+pub unload_root-root-requires-clause-count : goal.unload_root-root-requires-clause-count
+unload_root-root-requires-clause-count g c = all_slots _ _ _ _ _ _ (c.unload_sides-sides.ensures.same.1 ∙ (c.unload_pages-pages.ensures.same.1 ∙ c.close_with-closed.ensures.counts.1)) c.args.self.slots c.args.self.all_pages c.args.self.all_sides
+
+pub unload_root-root-requires-clause-full : goal.unload_root-root-requires-clause-full
+unload_root-root-requires-clause-full g c =
+    let deep = all_slots _ _ _ _ _ _ (c.unload_pages-pages.ensures.same.1 ∙ c.close_with-closed.ensures.counts.1) c.args.self.slots c.args.self.all_pages c.args.self.all_sides in
+    c.unload_sides-sides.ensures.left (c.args.self.pages + c.args.self.sides) (at_least _) (last_inside _ _ _ deep)
+
+pub unload_root-root-requires-clause-empty : goal.unload_root-root-requires-clause-empty
+unload_root-root-requires-clause-empty g c = c.unload_sides-sides.ensures.gone
