@@ -1,4 +1,6 @@
-use Rattle.std.proofs.Common.{◌+◌, length, ap, arith}
+use Rattle.std.proofs.Common.{◌+◌, length, ap, ◌∙◌, arith}
+use Rattle.std.specs.List.{sum_by}
+use Rattle.std.proofs.lemmas.List.{take_all}
 use Rattle.std.proofs.lemmas.List.Sums.{sum_by-take-le, sum_by_more}
 use Rattle.mq_tie.proofs.order.count_stored.Goals as goal
 
@@ -19,3 +21,6 @@ loop-side-preserved g c =
     let item = ap (λ s. length s.stored.items) c.side-item.is in
     let now = c.loop-side.invariant in
     omega arith
+
+pub returns : goal.returns
+returns g c = c.loop-side.invariant ∙ ap (sum_by (λ s. length s.stored.items)) (take_all c.loop-side.side-index c.args.sides.now c.loop-side-test.false)
