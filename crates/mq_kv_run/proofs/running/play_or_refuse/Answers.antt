@@ -1,4 +1,4 @@
-use Rattle.std.proofs.Common.{◌≡◌, None, Option, ap, rules, sym, subst}
+use Rattle.std.proofs.Common.{Option, ap, rules, sym, subst}
 use Rattle.mq_blocks.specs.declared.geometry.Geometry.{Geometry}
 use Rattle.mq_image.specs.File.{DriveImage}
 use Rattle.mq_image_ops.specs.declared.ports.Failing.{Failing}
@@ -7,7 +7,7 @@ use Rattle.mq_image_run.specs.Runs.{IsPlayedOn}
 use Rattle.mq_image_run.specs.declared.options.DriveOptions.{DriveOptions}
 use Rattle.mq_image_run.proofs.Leads.{played-leads, unplayed-leads}
 use Rattle.mq_kv_run.specs.Drives.{IsNotPlayed, PlaysGroups}
-use Rattle.mq_kv_run.specs.Endings.{drive_options, finishes}
+use Rattle.mq_kv_run.specs.Endings.{finishes}
 use Rattle.mq_kv_run.specs.Refusals.{RefusesStore}
 use Rattle.mq_kv_run.proofs.Left.{refuses}
 use Rattle.mq_kv_run.proofs.running.play_or_refuse.Goals as goal
