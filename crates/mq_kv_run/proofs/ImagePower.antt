@@ -1,6 +1,6 @@
 -- A run in which a group was cut off is one whose power went off; and how each run starts and ends.
 use Rattle.std.proofs.Common.{◌≡◌, ◌⊎◌, ◌∙◌, ℕ, zero, suc, ◌≤◌, Bool, true, false, List, [], ◌∷◌, ◌++◌, map, replicate, Option, None, Some, inl, inr, refl, sym, ap, subst, arith}
-use Rattle.std.specs.Prelude.{Err, Ok, Result, slice_index_or}
+use Rattle.std.specs.Prelude.{Err, Ok, Result}
 use Rattle.std.specs.List.{Contains}
 use Rattle.mq_blocks.specs.Drive.{PortState}
 use Rattle.mq_blocks.specs.declared.geometry.Geometry.{Geometry}
@@ -51,7 +51,7 @@ use Rattle.mq_sessions.specs.Synchronizing as durable
 use Rattle.mq_sessions.specs.Synchronizing.{IsNotDurable}
 use Rattle.mq_sessions.specs.declared.answers.RefusalCause.{RefusalCause}
 use Rattle.mq_sessions.specs.declared.answers.RefusalCause.TheVariants.{Drive}
-use Rattle.mq_tie.specs.Backed.{IsBehind, IsBehindAt, opened_faults}
+use Rattle.mq_tie.specs.Backed.{IsBehindAt, opened_faults}
 use Rattle.mq_tie.specs.Runs.{ports_of}
 use Rattle.mq_tie.specs.declared.ended.Ended.{Ended}
 use Rattle.mq_tie.proofs.Backed as closed
@@ -59,7 +59,7 @@ use Rattle.mq_tie.proofs.Runs.{same-ports}
 use Rattle.mq_turns.specs.Desk.{charged_of}
 use Rattle.mq_turns.specs.declared.rule.Charge.{Charge}
 use Rattle.mq_turns.specs.declared.turn.Turn.{Turn}
-use Rattle.mq_turns.specs.declared.turn.Turn.TheVariants.{Page, Root, Side}
+use Rattle.mq_turns.specs.declared.turn.Turn.TheVariants.{Side}
 
 -- ---- a refusal for a drive's cause is reported of a port
 

@@ -30,7 +30,7 @@ use Rattle.mq_sessions.proofs.Members.{cons-here}
 use Rattle.mq_image_run.specs.Drives.{IsDriven, emu_ghosts}
 use Rattle.mq_kv_run.specs.Drives.{PlaysGroups, with_told}
 use Rattle.mq_kv_run.specs.Endings.{drive_options, finishes}
-use Rattle.mq_kv_run.specs.Groups.{IsReached, Point}
+use Rattle.mq_kv_run.specs.Groups.{Point}
 use Rattle.mq_kv_run.specs.Played.{EndsBy, HasRunStore}
 use Rattle.mq_kv_run.specs.Promise.{IsCleanAt, IsCutAt, first_point}
 use Rattle.mq_kv_run.specs.Recovering.{HoldsHome, LeadsTo}
@@ -52,7 +52,6 @@ use Rattle.mq_ledger.specs.KnownJournal.{front}
 use Rattle.mq_ledger.specs.State.{port_at}
 use Rattle.mq_nvme.specs.Says.{journal_reading}
 use Rattle.mq_recover.specs.Drives.{AreImages, drive_of, states}
-use Rattle.mq_recover.specs.Standing.{StandsIn}
 use Rattle.mq_recover.specs.declared.standing.Standing.{Standing}
 use Rattle.mq_image_ops.proofs.ViewsFiles.{file-shows}
 use Rattle.mq_tie.specs.Runs.{ports_of}

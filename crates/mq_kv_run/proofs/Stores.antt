@@ -1,5 +1,5 @@
 -- Groups that are reported run on the store in the buckets.
-use Rattle.std.proofs.Common.{◌≡◌, ◌≢◌, ◌≤◌, ◌<◌, ℕ, Bool, true, false, List, [], ◌∷◌, Contains, length, refl, sym, ap, subst, ◌∙◌, arith}
+use Rattle.std.proofs.Common.{◌≡◌, ◌≤◌, ℕ, Bool, true, false, List, [], ◌∷◌, Contains, length, refl, sym, ap, subst, ◌∙◌, arith}
 use Rattle.std.specs.Prelude.{Option}
 use Rattle.std.specs.Str.{bytes_eq}
 use Rattle.std.proofs.lemmas.Bool.{false≢true}
@@ -16,7 +16,7 @@ use Rattle.mq_kv_buckets.specs.declared.operation.KvOp.{KvOp}
 use Rattle.mq_kv_buckets.specs.declared.operation.KvReply.{KvReply}
 use Rattle.mq_kv_buckets.proofs.StoreLaws.{groups-run}
 use Rattle.mq_kv_entries.specs.Groups.{IsDifference}
-use Rattle.mq_kv_run.specs.Groups.{AreTold, IsCommit, IsTold, Point, Writes, committed, cut_off, next, read, too_large, whole}
+use Rattle.mq_kv_run.specs.Groups.{AreTold, IsCommit, Point, Writes, committed, cut_off, next, read, too_large, whole}
 use Rattle.mq_kv_run.specs.Stores.{LeaveStore, store_at}
 use Rattle.mq_kv_text.specs.declared.report.GroupReport.{GroupReport}
 use Rattle.mq_pages.specs.declared.page.Write.{Write}

@@ -3,8 +3,9 @@ ghost use Rattle.std.specs.Prelude.{◌≤◌, ◌^◌, ℕ, List, IfErr, IfOk, 
 ghost use Rattle.std.specs.Option.{ForSome};
 ghost use Rattle.mq_blocks.specs.Descriptor.{Descriptor};
 ghost use Rattle.mq_image.specs.Drives.{IsDrive};
+ghost use Rattle.mq_image_run.specs.Drives.{AreKept, IsReady};
 ghost use Rattle.mq_image_run.specs.Runs.{IsPlayedOn};
-ghost use Rattle.mq_kv_run.specs.Drives.{PlaysGroups};
+ghost use Rattle.mq_kv_run.specs.Drives.{IsNotPlayed, PlaysGroups};
 ghost use Rattle.mq_kv_run.specs.Endings.{drive_options, finishes};
 ghost use Rattle.mq_kv_run.specs.Limits.{HoldsStore};
 ghost use Rattle.mq_kv_run.specs.Refusals.{RefusesStore};
@@ -40,9 +41,17 @@ fn play_or_refuse<R: Wait>(
     let geometry = image.geometry;
     let finish = options.finishes();
     a_recovered_image_holds_what_stood();
-    let played = play_on_image(alloc, image, options.drive(), |ports| {
-        play_on_ports(rt, alloc, geometry, ports, groups, finish)
-    });
+    let played = play_on_image(
+        alloc,
+        image,
+        options.drive(),
+        |ports|
+            requires { IsReady geometry ports }
+            ensures ok { IfOk result (λ r. PlaysGroups geometry groups.entry.now finish ports.entry r.0 r.1) }
+            ensures kept { IfOk result (λ r. AreKept geometry ports.entry r.1) }
+            ensures refused { IfErr result (IsNotPlayed geometry ports.entry) }
+        { play_on_ports(rt, alloc, geometry, ports, groups, finish) },
+    );
     match played {
         Ok(left) => Ok(left),
         Err(unplayed) => Err(KvRunRefusal::from(unplayed)),

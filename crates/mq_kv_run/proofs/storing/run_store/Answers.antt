@@ -1,10 +1,9 @@
-use Rattle.std.proofs.Common.{◌≡◌, ℕ, subst}
+use Rattle.std.proofs.Common.{ℕ, subst}
 use Rattle.mq_blocks.specs.declared.geometry.Geometry.{Geometry}
 use Rattle.mq_journal.specs.Numbers.{Seat}
 use Rattle.mq_kv_entries.specs.declared.entry.KvEntry.{KvEntry}
 use Rattle.mq_kv_run.specs.Played.{HasPlayedStore}
 use Rattle.mq_turns.specs.AtDesk.{start_of, view}
-use Rattle.mq_turns.specs.Desk.{fresh}
 use Rattle.mq_kv_run.proofs.storing.run_store.Goals as goal
 
 pub returns-clause-ok : goal.returns-clause-ok
