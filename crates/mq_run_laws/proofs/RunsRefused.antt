@@ -54,7 +54,7 @@ drive-refuses holds x fail (Corrupt cause b) is = mounted is.refused
     mounted : IsNotMounted x.geometry (drive_of emu_state is.ports) (mount.Corrupt cause b) → RefusesRun x (Corrupt cause b)
     mounted (corrupt s stands bad none) =
         not_mounted is.recovery.ds is.recovery.top s.blocks.items is.recovery.plan.read (subst (AreWithin x) is.recovery.base is.within) (holds x is.recovered is.fuse fail is.ports s is.recovery is.started stands)
-        (λ v laid. bad v (record { standing = s; stands = stands; laid = laid })) none
+        (λ v laid. none v (record { standing = s; stands = stands; laid = laid })) bad
 
 pub refuses : RecoveredDrivesHoldTheBlocks → (x : DriveImage) (fail : Option Failing) (e : Unplayed StandingRefusal) → IsUnplayed (IsNotPlayed x.geometry) fail x e → RefusesRun x (refusal_from e)
 refuses holds x fail (unplayed.Image e) is = unfit-refuses x e is

@@ -69,7 +69,7 @@ fn play_or_refuse<R: Threads + Wait + Sync, G: Gate + Sync>(
             requires ready { IsReady geometry ports }
             requires scripts { (1 ≤ length scripts.now) × (length scripts.now ≤ queues_of geometry) }
             requires short { All (λ s. IsShort s.groups) scripts.now }
-            ensures ok { IfOk result (λ r. PlaysScripts geometry scripts.now finish ports.entry r.0 r.1) }
+            ensures ok { IfOk result (λ r. PlaysScripts geometry scripts.entry.now finish ports.entry r.0 r.1) }
             ensures kept { IfOk result (λ r. AreKept geometry ports.entry r.1) }
             ensures refused { IfErr result (IsNotPlayed geometry ports.entry) }
         { play_scripts(rt, alloc, geometry, ports, scripts, finish, gate) },
