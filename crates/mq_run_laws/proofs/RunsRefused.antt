@@ -1,11 +1,7 @@
 -- Why no script is run on an image.
-use Rattle.std.proofs.Common.{◌≡◌, ◌≤◌, ℕ, Option, None, refl, subst, ◌∙◌, arith}
-use Rattle.mq_blocks.specs.Drive.{FuseName}
-use Rattle.mq_blocks.specs.declared.geometry.Geometry.{Geometry}
+use Rattle.std.proofs.Common.{◌≡◌, Option, refl, subst}
 use Rattle.mq_calls.specs.Mounting.{IsNotMounted, corrupt}
 use Rattle.mq_drive.specs.Emu.{emu_state}
-use Rattle.mq_drive.specs.declared.emu.EmuPort.{EmuPort}
-use Rattle.mq_drive.specs.declared.port.Ports.{Ports}
 use Rattle.mq_image.specs.File.{DriveImage}
 use Rattle.mq_image_ops.specs.Laws.{RecoveredDrivesHoldTheBlocks}
 use Rattle.mq_image_ops.specs.Refusals.{refusal_for}
