@@ -57,7 +57,6 @@ use Rattle.mq_queue_side.specs.Laws.{NamesTransaction}
 use Rattle.mq_queue_side.specs.Side.{HasTx}
 use Rattle.mq_queue_side.specs.declared.answers.Cause.{Cause}
 use Rattle.mq_queue_side.specs.declared.answers.Cause.TheVariants.{Failed, FailedHome, Off, Stopped}
-use Rattle.mq_queue_side.specs.declared.answers.Why.{Why}
 use Rattle.mq_queue_side.specs.declared.answers.Why.TheVariants as why
 use Rattle.mq_tie.specs.Backed.{IsBehind, IsBehindAt}
 use Rattle.mq_tree.specs.Volume.{Volume}

@@ -1,5 +1,4 @@
 -- The drive on which scripts are run.
-use Rattle.std.proofs.Common.{◌≡◌}
 use Rattle.mq_blocks.specs.declared.geometry.Geometry.{Geometry}
 use Rattle.mq_calls.specs.Mounting.{IsNotMounted}
 use Rattle.mq_drive.specs.Emu.{emu_state}

@@ -1,11 +1,7 @@
 -- Why no script is run on an image.
-use Rattle.std.proofs.Common.{◌≡◌, ◌≤◌, ℕ, Option, None, refl, subst, ◌∙◌, arith}
-use Rattle.mq_blocks.specs.Drive.{FuseName}
-use Rattle.mq_blocks.specs.declared.geometry.Geometry.{Geometry}
+use Rattle.std.proofs.Common.{◌≡◌, Option, refl, subst}
 use Rattle.mq_calls.specs.Mounting.{IsNotMounted, corrupt}
 use Rattle.mq_drive.specs.Emu.{emu_state}
-use Rattle.mq_drive.specs.declared.emu.EmuPort.{EmuPort}
-use Rattle.mq_drive.specs.declared.port.Ports.{Ports}
 use Rattle.mq_image.specs.File.{DriveImage}
 use Rattle.mq_image_ops.specs.Laws.{RecoveredDrivesHoldTheBlocks}
 use Rattle.mq_image_ops.specs.Refusals.{refusal_for}
@@ -54,7 +50,7 @@ drive-refuses holds x fail (Corrupt cause b) is = mounted is.refused
     mounted : IsNotMounted x.geometry (drive_of emu_state is.ports) (mount.Corrupt cause b) → RefusesRun x (Corrupt cause b)
     mounted (corrupt s stands bad none) =
         not_mounted is.recovery.ds is.recovery.top s.blocks.items is.recovery.plan.read (subst (AreWithin x) is.recovery.base is.within) (holds x is.recovered is.fuse fail is.ports s is.recovery is.started stands)
-        (λ v laid. bad v (record { standing = s; stands = stands; laid = laid })) none
+        (λ v laid. none v (record { standing = s; stands = stands; laid = laid })) bad
 
 pub refuses : RecoveredDrivesHoldTheBlocks → (x : DriveImage) (fail : Option Failing) (e : Unplayed StandingRefusal) → IsUnplayed (IsNotPlayed x.geometry) fail x e → RefusesRun x (refusal_from e)
 refuses holds x fail (unplayed.Image e) is = unfit-refuses x e is

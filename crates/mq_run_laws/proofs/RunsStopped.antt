@@ -1,8 +1,7 @@
 -- With the power on, the drive did not refuse the checkpoint at the end of a run.
-use Rattle.std.proofs.Common.{◌≡◌, ◌∙◌, Bool, false, List, Option, Some, None}
+use Rattle.std.proofs.Common.{◌≡◌, ◌∙◌, Bool, false, List, Some, None}
 use Rattle.std.specs.Prelude.{Err}
 use Rattle.mq_drive.specs.Emu.{emu_faults, emu_state}
-use Rattle.mq_drive.specs.declared.emu.EmuPort.{EmuPort}
 use Rattle.mq_image.specs.File.{DriveImage}
 use Rattle.mq_image_run.specs.Drives.{IsDriven, emu_ghosts}
 use Rattle.mq_image_run.specs.Runs.{IsPlayedOn}

@@ -1,5 +1,5 @@
 -- Scripts whose groups and requests can be counted.
-use Rattle.std.proofs.Common.{◌≡◌, ℕ, ◌<◌, ◌≤◌, ◌^◌, List, [], length, get_or, arith, refl}
+use Rattle.std.proofs.Common.{◌≡◌, ℕ, ◌<◌, ◌≤◌, ◌^◌, List, length, get_or, arith, refl}
 use Rattle.std.proofs.lemmas.Option.{slice_get_read}
 use Rattle.mq_run.specs.Playing.{IsShort}
 use Rattle.mq_script.specs.Scripts.{Group}

@@ -1,5 +1,5 @@
 -- The refusals of a run on an image charge each a fault of its own.
-use Rattle.std.proofs.Common.{◌≡◌, ◌⊎◌, ℕ, ◌-◌, ◌≤◌, ◌^◌, Bool, List, [], length, inl, inr, refl, sym, subst, arith}
+use Rattle.std.proofs.Common.{◌⊎◌, ◌-◌, ◌≤◌, ◌^◌, Bool, List, [], length, inl, inr, refl, subst, arith}
 use Rattle.mq_drive.specs.Emu.{emu_faults, emu_state}
 use Rattle.mq_drive.specs.Steps.{PortFault}
 use Rattle.mq_drive.specs.declared.emu.EmuPort.{EmuPort}
@@ -14,7 +14,6 @@ use Rattle.mq_run_laws.specs.declared.options.RunOptions.{RunOptions}
 use Rattle.mq_run_laws.specs.declared.ran.ImageRun.{ImageRun}
 use Rattle.mq_recover.specs.Drives.{faults_on}
 use Rattle.mq_script.specs.Scripts.{Script}
-use Rattle.mq_tie.specs.Backed.{faults_at}
 use Rattle.mq_turns.specs.declared.turn.Turn.TheVariants.{Root, Side}
 use Rattle.mq_run_laws.specs.Causes.{IsChargedOnce, IsUntold}
 use Rattle.mq_run_laws.specs.Sums.{HasCountedAll, IsSum}

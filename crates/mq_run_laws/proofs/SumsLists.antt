@@ -1,5 +1,5 @@
 -- Totals of lists, and of numbers below a bound.
-use Rattle.std.proofs.Common.{◌≡◌, ◌⊎◌, ℕ, zero, suc, ◌+◌, ◌<◌, ◌≤◌, ◌++◌, List, [], ◌∷◌, length, map, inl, inr, refl, subst, arith}
+use Rattle.std.proofs.Common.{◌≡◌, ◌⊎◌, ℕ, zero, suc, ◌+◌, ◌<◌, ◌≤◌, ◌++◌, List, [], ◌∷◌, length, map, inl, inr, refl, arith}
 use Rattle.std.specs.Prelude.{Some, slice_get, slice_index_or}
 use Rattle.mq_blocks.specs.Totals.{total}
 use Rattle.mq_run.specs.Lines.{joined}

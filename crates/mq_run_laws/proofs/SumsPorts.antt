@@ -1,14 +1,14 @@
 -- The reports of a run are of its ports, and each port has gained a fault for each that charges one to it.
-use Rattle.std.proofs.Common.{◌≡◌, ◌⊎◌, ◌∙◌, ℕ, zero, suc, ◌+◌, ◌-◌, ◌<◌, ◌≤◌, ◌^◌, ◌++◌, Bool, true, false, cond, List, [], ◌∷◌, length, map, inl, inr, refl, sym, ap, subst, arith, eq-eqb}
-use Rattle.std.specs.Prelude.{◌&&◌, Option, Some, None, Result, Ok, Err, nat_eq, slice_get, slice_index_or}
-use Rattle.std.specs.List.{All, Contains}
+use Rattle.std.proofs.Common.{◌≡◌, ◌⊎◌, ◌∙◌, ℕ, ◌+◌, ◌-◌, ◌<◌, ◌≤◌, ◌^◌, ◌++◌, Bool, cond, List, [], ◌∷◌, length, map, inl, inr, refl, sym, ap, subst, arith, eq-eqb}
+use Rattle.std.specs.Prelude.{◌&&◌, Option, Some, None, Result, Ok, Err, slice_get, slice_index_or}
+use Rattle.std.specs.List.{All}
 use Rattle.std.proofs.lemmas.List.{length-map}
 use Rattle.mq_blocks.specs.Drive.{PortState}
 use Rattle.mq_blocks.specs.Totals.{total}
 use Rattle.mq_blocks.specs.declared.geometry.Geometry.{Geometry}
 use Rattle.mq_journal.specs.declared.refusal.CheckpointRefusal.{CheckpointRefusal}
 use Rattle.mq_desk_laws.proofs.Opening.{at_map}
-use Rattle.mq_desk_laws.specs.Faults.{AreCharged, charged_to, fault_of, of_kind, passes}
+use Rattle.mq_desk_laws.specs.Faults.{AreCharged, charged_to, of_kind}
 use Rattle.mq_desk_laws.specs.Rule.{IsOfPort, IsPortTurn, IsSide, geometry_of}
 use Rattle.mq_desk_laws.specs.Rule as rule
 use Rattle.mq_desk_laws.specs.Values.{Values}
@@ -37,7 +37,7 @@ use Rattle.mq_tie.specs.Backed.{faults_at, opened_faults}
 use Rattle.mq_tie.specs.Runs.{ports_of}
 use Rattle.mq_turns.proofs.MarksReadings.{tally_append}
 use Rattle.mq_turns.specs.Desk.{charged_of, fresh}
-use Rattle.mq_turns.specs.Lists.{Each, tally}
+use Rattle.mq_turns.specs.Lists.{Each}
 use Rattle.mq_turns.specs.Words.{same_turn}
 use Rattle.mq_turns.specs.declared.rule.Charge.{Charge}
 use Rattle.mq_turns.specs.declared.turn.Turn.{Turn}

@@ -1,7 +1,7 @@
 -- What a run of scripts is, in the words of its report, in one statement each.
 use Rattle.std.specs.Prelude.{◌≡◌, ◌<◌, ◌≤◌, ℕ, Bool, List, Err, Ok, Some}
 use Rattle.std.specs.List.{All, Contains}
-use Rattle.mq_nvme.specs.Says.{says, journal_reading}
+use Rattle.mq_nvme.specs.Says.{journal_reading}
 use Rattle.mq_blocks.specs.Drive.{PortImage, PortState}
 use Rattle.mq_blocks.specs.Geometry.{queues_of}
 use Rattle.mq_blocks.specs.Journal.{shown}

@@ -1,5 +1,5 @@
 -- What scripts that are played on a drive come to.
-use Rattle.std.specs.Prelude.{◌≡◌, ℕ, Bool, List}
+use Rattle.std.specs.Prelude.{Bool, List}
 use Rattle.mq_blocks.specs.declared.geometry.Geometry.{Geometry}
 use Rattle.mq_calls.specs.Mounting.{IsNotMounted}
 use Rattle.mq_calls.specs.Opening.{MayOpen}

@@ -5,11 +5,12 @@ ghost use Rattle.std.specs.Option.{ForSome};
 ghost use Rattle.mq_blocks.specs.Geometry.{queues_of};
 ghost use Rattle.mq_image.specs.Drives.{IsDrive};
 ghost use Rattle.mq_image_ops.specs.Standing.{StandsFor};
+ghost use Rattle.mq_image_run.specs.Drives.{AreKept, IsReady};
 ghost use Rattle.mq_image_run.specs.Limits.{AreWithin};
 ghost use Rattle.mq_image_run.specs.Runs.{IsPlayedOn};
 ghost use Rattle.mq_run.specs.Playing.{IsShort};
 ghost use Rattle.mq_run_laws.specs.Endings.{drive_options, finishes, limit_of};
-ghost use Rattle.mq_run_laws.specs.Played.{PlaysScripts};
+ghost use Rattle.mq_run_laws.specs.Played.{IsNotPlayed, PlaysScripts};
 ghost use Rattle.mq_run_laws.specs.Refusals.{RefusesRun, refusal_from};
 ghost use Rattle.mq_run_laws.specs.Runs.{IsRunOf};
 ghost use Rattle.mq_tree.specs.Volume.{Volume};
@@ -60,9 +61,19 @@ fn play_or_refuse<R: Threads + Wait + Sync, G: Gate + Sync>(
     let geometry = image.geometry;
     let finish = options.ending.finishes();
     a_recovered_image_holds_what_stood();
-    let played = play_on_image(alloc, image, options.drive(), |ports| {
-        play_scripts(rt, alloc, geometry, ports, scripts, finish, gate)
-    });
+    let played = play_on_image(
+        alloc,
+        image,
+        options.drive(),
+        |ports|
+            requires ready { IsReady geometry ports }
+            requires scripts { (1 ≤ length scripts.now) × (length scripts.now ≤ queues_of geometry) }
+            requires short { All (λ s. IsShort s.groups) scripts.now }
+            ensures ok { IfOk result (λ r. PlaysScripts geometry scripts.entry.now finish ports.entry r.0 r.1) }
+            ensures kept { IfOk result (λ r. AreKept geometry ports.entry r.1) }
+            ensures refused { IfErr result (IsNotPlayed geometry ports.entry) }
+        { play_scripts(rt, alloc, geometry, ports, scripts, finish, gate) },
+    );
     match played {
         Ok(left) => Ok(left),
         Err(unplayed) => Err(refusal_of(unplayed)),

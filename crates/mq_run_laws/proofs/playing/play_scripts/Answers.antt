@@ -1,4 +1,3 @@
-use Rattle.std.proofs.Common.{refl}
 use Rattle.std.proofs.lemmas.Result.{err_from_is_err_and}
 use Rattle.mq_run_laws.proofs.DrivesMounting.{not-played}
 use Rattle.mq_run_laws.proofs.playing.play_scripts.Goals as goal

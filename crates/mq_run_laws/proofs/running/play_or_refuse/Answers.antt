@@ -1,8 +1,8 @@
-use Rattle.std.proofs.Common.{◌≡◌, rules, sym, subst}
+use Rattle.std.proofs.Common.{rules, sym, subst}
 use Rattle.mq_image_run.specs.Runs.{IsPlayedOn}
 use Rattle.mq_image_run.specs.declared.options.DriveOptions.{DriveOptions}
 use Rattle.mq_image_run.proofs.Leads.{played-leads, unplayed-leads}
-use Rattle.mq_run_laws.specs.Endings.{drive_options, finishes}
+use Rattle.mq_run_laws.specs.Endings.{finishes}
 use Rattle.mq_run_laws.specs.Played.{IsNotPlayed, PlaysScripts}
 use Rattle.mq_run_laws.specs.Refusals.{RefusesRun}
 use Rattle.mq_run_laws.proofs.RunsRefused.{refuses}

@@ -1,4 +1,4 @@
-use Rattle.std.proofs.Common.{◌∙◌, refl, subst}
+use Rattle.std.proofs.Common.{refl, subst}
 use Rattle.std.proofs.lemmas.Result.{err_from_is_err_and}
 use Rattle.mq_run_laws.specs.Endings.{drive_options, finishes}
 use Rattle.mq_run_laws.specs.Refusals.{wanting}
