@@ -12,6 +12,7 @@ pub mod SlotsOwned
 pub mod SlotsTearing
 pub mod Sound
 pub mod Start
+pub mod StartSound
 pub mod StartRolePorts
 pub mod StepsFaults
 pub mod Totals

@@ -1,6 +1,11 @@
 use Rattle.std.proofs.Common.{◌≡◌, ◌∙◌, ℕ, List, sym, ap, subst}
-use Rattle.mq_sessions.specs.Drawn.{tx_by}
-use Rattle.mq_journal.specs.Numbers.{Draws, HoldsNumbered, IsReported, Seat}
+use Rattle.mq_sessions.specs.Drawn.{blocks_in, tx_by}
+use Rattle.mq_blocks.specs.Descriptor.{AreRising}
+use Rattle.mq_blocks.specs.Geometry.{homes_of}
+use Rattle.mq_desk_laws.specs.Rule.{core_of}
+use Rattle.mq_journal.specs.Values.{side_values}
+use Rattle.mq_ledger.specs.declared.tx.Tx.{Tx}
+use Rattle.mq_journal.specs.Numbers.{Draws, HoldsNumbered, HoldsSide, IsReported, MayCome, Seat}
 use Rattle.mq_pages.specs.Held.{Cells}
 use Rattle.mq_turns.specs.AtDesk.{start_of, view}
 use Rattle.mq_turns.specs.declared.rule.Report.TheVariants as report
@@ -103,3 +108,89 @@ returns-in-Err-clause-cut g c =
       has-drawn st fs g.G.Groups.group o q c.number-at.result e report.Off cells c.args.side s n v w x y c.requires.holds draws number c.give_drawn_pages.ensures.gave told (subst (λ (m : ℕ). IsUnderWay q m x) number (under-way st fs g.G.Groups.group o q s n x told.known c.give_drawn_pages.ensures.at.1 mine told.sees)),
       cut-at st fs g.G.Groups.group o q c.number-at.result e s n v w draws number c.in-Err.ensures.cut,
     )
+
+pub number-numbered-requires-clause-at : goal.number-numbered-requires-clause-at
+number-numbered-requires-clause-at g c = c.requires.at
+
+pub number-numbered-requires-clause-side : goal.number-numbered-requires-clause-side
+number-numbered-requires-clause-side g c =
+    subst (λ (q : ℕ). HoldsSide g.P.Port.state g.P.Port.faults g.G.Groups.group (start_of c.args.desk.now) q c.args.side (view c.args.chair.now)) (sym c.requires.queue) c.requires.holds.side
+
+pub number-numbered-requires-clause-none : goal.number-numbered-requires-clause-none
+number-numbered-requires-clause-none g c = c.requires.ready.1.none
+
+pub number-numbered-requires-clause-may : goal.number-numbered-requires-clause-may
+number-numbered-requires-clause-may g c =
+    subst (λ (q : ℕ). MayCome g.P.Port.state g.P.Port.faults g.G.Groups.group (start_of c.args.desk.now) q c.args.ready.entry (view c.args.chair.now)) (sym c.requires.queue) c.requires.ready.1.may
+
+pub number-numbered-requires-clause-follows : goal.number-numbered-requires-clause-follows
+number-numbered-requires-clause-follows g c = c.requires.ready.1.follows
+
+pub number-numbered-requires-clause-room : goal.number-numbered-requires-clause-room
+number-numbered-requires-clause-room g c = c.requires.room
+
+pub number-numbered-requires-clause-tells : goal.number-numbered-requires-clause-tells
+number-numbered-requires-clause-tells g c = c.requires.ready.1.tells
+
+pub number-numbered-requires-clause-place : goal.number-numbered-requires-clause-place
+number-numbered-requires-clause-place g c = c.requires.ready.1.place
+
+pub number-numbered-requires-clause-reserved : goal.number-numbered-requires-clause-reserved
+number-numbered-requires-clause-reserved g c = c.requires.ready.1.reserved
+
+pub number-numbered-requires-clause-queue : goal.number-numbered-requires-clause-queue
+number-numbered-requires-clause-queue g c =
+    let tells = c.entries_tell.ensures (call_of c.args.asked.now) c.args.done c.args.ready.entry c.requires.ready.1.is in
+    ap (λ (t : Tx). t.queue) tells.tx ∙ sym c.requires.queue
+
+pub give_drawn_pages-requires-clause-at : goal.give_drawn_pages-requires-clause-at
+give_drawn_pages-requires-clause-at g c = c.number-numbered.ensures.at
+
+pub give_drawn_pages-requires-clause-logged : goal.give_drawn_pages-requires-clause-logged
+give_drawn_pages-requires-clause-logged g c = let plan = c.requires.ready.1.plan_is in (plan.0, plan.1.logged)
+
+pub give_drawn_pages-requires-clause-direct : goal.give_drawn_pages-requires-clause-direct
+give_drawn_pages-requires-clause-direct g c = let plan = c.requires.ready.1.plan_is in (plan.0, plan.1.direct)
+
+pub give_drawn_pages-requires-clause-writes : goal.give_drawn_pages-requires-clause-writes
+give_drawn_pages-requires-clause-writes g c =
+    let plan = c.requires.ready.1.plan_is in
+    (plan.0, subst (λ (ws : List Write). AreRising 0 plan.0 (blocks_in ws)) (sym c.parts-replies.ensures.writes) plan.1.rising)
+
+pub give_drawn_pages-requires-clause-frees : goal.give_drawn_pages-requires-clause-frees
+give_drawn_pages-requires-clause-frees g c =
+    let draws = c.number-numbered.ensures.draws in
+    let tells = c.entries_tell.ensures (call_of c.args.asked.now) c.args.done c.args.ready.entry c.requires.ready.1.is in
+    let freed = ap (λ (t : Tx). t.freed) tells.tx ∙ sym (c.deref.ensures.value ∙ c.parts-replies.ensures.frees) in
+    let homes = homes_of (core_of (side_values g.P.Port.state g.P.Port.faults) g.G.Groups.group draws.known).geometry in
+    (homes, subst (λ (bs : List ℕ). AreRising 0 homes bs) freed draws.may.draw.form.freed)
+
+pub send-requires-clause-at : goal.send-requires-clause-at
+send-requires-clause-at g c = c.give_drawn_pages.ensures.at
+
+pub send-requires-clause-sends : goal.send-requires-clause-sends
+send-requires-clause-sends g c = c.number-numbered.ensures.draws.sends
+
+pub send-requires-clause-queue : goal.send-requires-clause-queue
+send-requires-clause-queue g c = c.number-numbered.ensures.draws.queue ∙ sym (ap (λ p. p.queue) c.number-numbered.ensures.pmr)
+
+pub returns-in-Ok-clause-at : goal.returns-in-Ok-clause-at
+returns-in-Ok-clause-at g c = c.send.ensures.at
+
+pub returns-in-Ok-clause-cells : goal.returns-in-Ok-clause-cells
+returns-in-Ok-clause-cells g c = c.give_drawn_pages.ensures.cells
+
+pub returns-in-Ok-clause-room : goal.returns-in-Ok-clause-room
+returns-in-Ok-clause-room g c = c.give_drawn_pages.ensures.room
+
+pub returns-in-Ok-clause-replies : goal.returns-in-Ok-clause-replies
+returns-in-Ok-clause-replies g c = c.parts-replies.ensures.replies
+
+pub returns-in-Err-clause-at : goal.returns-in-Err-clause-at
+returns-in-Err-clause-at g c = c.send.ensures.at
+
+pub returns-in-Err-clause-cells : goal.returns-in-Err-clause-cells
+returns-in-Err-clause-cells g c = c.give_drawn_pages.ensures.cells
+
+pub returns-in-Err-clause-room : goal.returns-in-Err-clause-room
+returns-in-Err-clause-room g c = c.give_drawn_pages.ensures.room
