@@ -1,7 +1,7 @@
 -- What words ask: exactly one thing, or nothing.
-use Rattle.std.specs.Prelude.{ℕ, ◌<◌, ◌≤◌, ◌+◌, ◌^◌, IfSome, ◌==◌, Bool, true, false, List, [], ◌∷◌, length, map, take, drop, Option, Some, None, option_and_then, option_map, codes, bytes_eq, nat_lt, nat_le, if◌then◌else◌, ◌&&◌}
+use Rattle.std.specs.Prelude.{◌≡◌, ◌⊎◌, ℕ, ◌<◌, ◌≤◌, ◌+◌, ◌^◌, IfSome, MatchResult, Result, ◌==◌, Bool, true, false, List, [], ◌∷◌, length, map, take, drop, Option, Some, None, option_and_then, option_map, codes, bytes_eq, nat_lt, nat_le, if◌then◌else◌, ◌&&◌}
 use Rattle.std.specs.List.{list_all, position}
-use Rattle.clap.specs.Words.{Row, Text, all_of, fault_of, first_of, matches_of}
+use Rattle.clap.specs.Words.{App, Row, Text, all_of, fault_of, first_of, matches_of}
 use Rattle.mq_block_text.specs.Words.{is_visible, number_in}
 use Rattle.mq_script.specs.Words.{path_in}
 use Rattle.mq_tree.specs.Volume.{Path}
@@ -11,6 +11,10 @@ use Rattle.mq_cli.specs.declared.command.Command.{Command}
 use Rattle.mq_cli.specs.declared.command.FailingCommand.{FailingCommand}
 use Rattle.mq_cli.specs.declared.command.RunFlags.{RunFlags}
 use Rattle.mq_cli.specs.declared.command.Command.TheVariants as command
+use Rattle.mq_cli.specs.declared.first.First.{First}
+use Rattle.mq_cli.specs.declared.first.First.TheVariants as first
+use Rattle.mq_cli.specs.declared.refusal.WordsRefusal.{WordsRefusal}
+use Rattle.mq_cli.specs.declared.refusal.WordsRefusal.TheVariants.{OutOfMemory, Unknown}
 use Rattle.mq_cli.specs.declared.verb.Verb.{Verb}
 use Rattle.mq_cli.specs.declared.verb.Verb.TheVariants as verb
 
@@ -192,24 +196,63 @@ abbrev pub is_empty : {A : Type 0} → List A → Bool
 is_empty [] = true
 is_empty (x ∷ xs) = false
 
--- The words of a command, its name the first, ask what `clap` finds in them, where `clap` finds no fault.
-unfoldable pub found_in : Verb → Words → Option Asked
-found_in verb words =
-    if is_empty (fault_of (app_for verb) words) then asked_by verb (matches_of (app_for verb) words)
-    else None
+-- The commands of a program: what a word names, a command as `clap` has it, what is found of one asks, and what
+-- the words ask that ask for help, or for the version.
+pub record Commands (V A : Type 0) : Type 0 where
+  pub verb_of : Text → Option V
+  pub app_for : V → App
+  pub asked_by : V → List Row → Option A
+  pub help : Option V → A
+  pub version : A
 
-abbrev pub asked_after : Option Verb → (word : Text) → (words : Words) → Option Asked
-asked_after None word words =
-    if bytes_eq word (codes "--help") then Some (help None)
-    else if bytes_eq word (codes "--version") then Some version
+-- The words of a command, its name the first, ask what `clap` finds in them, where `clap` finds no fault.
+unfoldable pub found_in : {V A : Type 0} → Commands V A → V → Words → Option A
+found_in commands verb words =
+    if is_empty (fault_of (commands.app_for verb) words)
+    then commands.asked_by verb (matches_of (commands.app_for verb) words) else None
+
+-- what the words ask by the first, which names this command or none
+abbrev pub first_in : {V : Type 0} → Option V → (word : Text) → (words : Words) → Option (First V)
+first_in None word words =
+    if bytes_eq word (codes "--help") then Some (first.Help None)
+    else if bytes_eq word (codes "--version") then Some first.Version
     else None
-asked_after (Some verb) word words =
-    if wants_help words then Some (help (Some verb)) else found_in verb (word ∷ words)
+first_in (Some verb) word words =
+    if wants_help words then Some (first.Help (Some verb)) else Some (first.Command verb)
+
+abbrev pub asked_first : {V A : Type 0} → Commands V A → Words → First V → Option A
+asked_first commands words (first.Help topic) = Some (commands.help topic)
+asked_first commands words first.Version = Some commands.version
+asked_first commands words (first.Command verb) = found_in commands verb words
+
+abbrev pub asked_in : {V A : Type 0} → Commands V A → Words → Option A
+asked_in commands [] = None
+asked_in commands (word ∷ words) =
+    option_and_then (asked_first commands (word ∷ words)) (first_in (commands.verb_of word) word words)
+
+abbrev pub commands : Commands Verb Asked
+commands = record {
+  verb_of = verb_of;
+  app_for = app_for;
+  asked_by = asked_by;
+  help = help;
+  version = version;
+}
 
 -- what the words ask
 abbrev pub asked_of : Words → Option Asked
-asked_of [] = None
-asked_of (word ∷ words) = asked_after (verb_of word) word words
+asked_of words = asked_in commands words
+
+-- What is read is what is asked, and what is refused asks nothing.
+abbrev pub Reads : {T A : Type 0} → (asked : T → A) → Option A → Result T WordsRefusal → Type 0
+Reads asked wanted r =
+    MatchResult r (λ x. wanted ≡ Some (asked x)) (λ e. (e ≡ Unknown) × (wanted ≡ None))
+
+-- the same, unless memory runs out
+abbrev pub ReadsOrFails : {T A : Type 0} → (asked : T → A) → Option A → Result T WordsRefusal → Type 0
+ReadsOrFails asked wanted r =
+    MatchResult r (λ x. wanted ≡ Some (asked x))
+    (λ e. (e ≡ OutOfMemory) ⊎ ((e ≡ Unknown) × (wanted ≡ None)))
 
 -- the same as a command
 abbrev pub asked : Command → Asked

@@ -1,5 +1,6 @@
 -- The commands by name, and the words of each as `clap` has them.
-use Rattle.std.specs.Prelude.{true, List, [], ◌∷◌, ◌++◌, map, Option, Some, None, codes, bytes_eq, if◌then◌else◌}
+use Rattle.std.specs.Prelude.{true, List, [], ◌∷◌, ◌++◌, map, Option, Some, None, codes, bytes_eq}
+use Rattle.std.specs.List.{find}
 use Rattle.clap.specs.Words.{App, Rule, Text, new_rule}
 use Rattle.clap.specs.Simple.{new_shape}
 use Rattle.clap.specs.declared.builder.action.ArgAction.TheVariants as action
@@ -22,21 +23,11 @@ verb_text Audit = codes "audit"
 verb_text Replicate = codes "replicate"
 verb_text Loose = codes "loose"
 
+abbrev pub verbs : List Verb
+verbs = Blocks ∷ Format ∷ Run ∷ Recover ∷ Ls ∷ Cat ∷ Gen ∷ Dump ∷ Check ∷ Audit ∷ Replicate ∷ Loose ∷ []
+
 abbrev pub verb_of : Text → Option Verb
-verb_of word =
-    if bytes_eq word (codes "blocks") then Some Blocks
-    else if bytes_eq word (codes "format") then Some Format
-    else if bytes_eq word (codes "run") then Some Run
-    else if bytes_eq word (codes "recover") then Some Recover
-    else if bytes_eq word (codes "ls") then Some Ls
-    else if bytes_eq word (codes "cat") then Some Cat
-    else if bytes_eq word (codes "gen") then Some Gen
-    else if bytes_eq word (codes "dump") then Some Dump
-    else if bytes_eq word (codes "check") then Some Check
-    else if bytes_eq word (codes "audit") then Some Audit
-    else if bytes_eq word (codes "replicate") then Some Replicate
-    else if bytes_eq word (codes "loose") then Some Loose
-    else None
+verb_of word = find (λ v. bytes_eq word (verb_text v)) verbs
 
 -- ---- their words
 

@@ -2,16 +2,16 @@
 ghost use Rattle.std.specs.Prelude.{◌≡◌, ◌≤◌, ◌<◌, ◌⊎◌, None, Some, IfOk, IfSome, MatchResult, length, map, option_map};
 ghost use Rattle.std.specs.String.{string_bytes};
 ghost use Rattle.clap.specs.Words.{all_of, first_of, found_of, rows_of};
-ghost use Rattle.mq_cli.specs.Asked.{HasScript, HasSmallNumbers, NamesCommand, Words, are_one_name, asked, asked_after, asked_by, asked_of, failing_option, found_in, number_end, number_from, number_option, some_words, word_in};
+ghost use Rattle.mq_cli.specs.Asked.{HasScript, HasSmallNumbers, NamesCommand, Reads, ReadsOrFails, are_one_name, asked, asked_by, asked_of, failing_option, number_from, some_words, word_in};
 ghost use Rattle.mq_cli.specs.declared.verb.Verb.TheVariants as verb;
 
 use crate::command::{BlocksOptions, Command, FailingCommand, RunFlags};
+use crate::first::{First, read_first};
 use crate::found::{found_name, found_number, found_word};
-use crate::help::asks_help;
 use crate::numbers::{
     GROUPS_END, NUMBER_END, THREADS_END, geometry_word, number_in_bounds, optional_command,
 };
-use crate::parse::parse;
+use crate::parse::{command_for, parse_words};
 use crate::path::path_of;
 use crate::refusal::WordsRefusal;
 use crate::verb::{Verb, read_verb};
@@ -82,9 +82,7 @@ fn is_one_name(save: Option<&str>, trace: Option<&str>) -> bool
 
 // What is found of `blocks` asks.
 fn blocks<'a>(matches: &ArgMatches<'a>) -> Result<Command<'a>, WordsRefusal>
-    ensures asks { MatchResult result (λ c. asked_by verb.Blocks (rows_of (found_of matches.now)) ≡ Some (asked c))
-        (λ e. (e ≡ WordsRefusal.Unknown)
-        × (asked_by verb.Blocks (rows_of (found_of matches.now)) ≡ None)) }
+    ensures asks { Reads asked (asked_by verb.Blocks (rows_of (found_of matches.now))) result }
     ensures small { IfOk result HasSmallNumbers }
     ensures script { IfOk result HasScript }
 {
@@ -107,9 +105,7 @@ fn blocks<'a>(matches: &ArgMatches<'a>) -> Result<Command<'a>, WordsRefusal>
 
 // What is found of `format` asks.
 fn format<'a>(matches: &ArgMatches<'a>) -> Result<Command<'a>, WordsRefusal>
-    ensures asks { MatchResult result (λ c. asked_by verb.Format (rows_of (found_of matches.now)) ≡ Some (asked c))
-        (λ e. (e ≡ WordsRefusal.Unknown)
-        × (asked_by verb.Format (rows_of (found_of matches.now)) ≡ None)) }
+    ensures asks { Reads asked (asked_by verb.Format (rows_of (found_of matches.now))) result }
     ensures small { IfOk result HasSmallNumbers }
     ensures script { IfOk result HasScript }
 {
@@ -129,9 +125,7 @@ fn format<'a>(matches: &ArgMatches<'a>) -> Result<Command<'a>, WordsRefusal>
 
 // What is found of `run` asks.
 fn run<'a>(alloc: Global, matches: &ArgMatches<'a>) -> Result<Command<'a>, WordsRefusal>
-    ensures asks { MatchResult result (λ c. asked_by verb.Run (rows_of (found_of matches.now)) ≡ Some (asked c))
-        (λ e. (e ≡ WordsRefusal.OutOfMemory) ⊎ ((e ≡ WordsRefusal.Unknown)
-        × (asked_by verb.Run (rows_of (found_of matches.now)) ≡ None))) }
+    ensures asks { ReadsOrFails asked (asked_by verb.Run (rows_of (found_of matches.now))) result }
     ensures small { IfOk result HasSmallNumbers }
     ensures script { IfOk result HasScript }
 {
@@ -149,9 +143,7 @@ fn run<'a>(alloc: Global, matches: &ArgMatches<'a>) -> Result<Command<'a>, Words
 
 // What is found of `recover` asks.
 fn recover<'a>(matches: &ArgMatches<'a>) -> Result<Command<'a>, WordsRefusal>
-    ensures asks { MatchResult result (λ c. asked_by verb.Recover (rows_of (found_of matches.now)) ≡ Some (asked c))
-        (λ e. (e ≡ WordsRefusal.Unknown)
-        × (asked_by verb.Recover (rows_of (found_of matches.now)) ≡ None)) }
+    ensures asks { Reads asked (asked_by verb.Recover (rows_of (found_of matches.now))) result }
     ensures small { IfOk result HasSmallNumbers }
     ensures script { IfOk result HasScript }
 {
@@ -163,9 +155,7 @@ fn recover<'a>(matches: &ArgMatches<'a>) -> Result<Command<'a>, WordsRefusal>
 
 // What is found of `cat` asks.
 fn cat<'a>(alloc: Global, matches: &ArgMatches<'a>) -> Result<Command<'a>, WordsRefusal>
-    ensures asks { MatchResult result (λ c. asked_by verb.Cat (rows_of (found_of matches.now)) ≡ Some (asked c))
-        (λ e. (e ≡ WordsRefusal.OutOfMemory) ⊎ ((e ≡ WordsRefusal.Unknown)
-        × (asked_by verb.Cat (rows_of (found_of matches.now)) ≡ None))) }
+    ensures asks { ReadsOrFails asked (asked_by verb.Cat (rows_of (found_of matches.now))) result }
     ensures small { IfOk result HasSmallNumbers }
     ensures script { IfOk result HasScript }
 {
@@ -177,9 +167,7 @@ fn cat<'a>(alloc: Global, matches: &ArgMatches<'a>) -> Result<Command<'a>, Words
 
 // What is found of `gen` asks.
 fn workload<'a>(matches: &ArgMatches<'a>) -> Result<Command<'a>, WordsRefusal>
-    ensures asks { MatchResult result (λ c. asked_by verb.Gen (rows_of (found_of matches.now)) ≡ Some (asked c))
-        (λ e. (e ≡ WordsRefusal.Unknown)
-        × (asked_by verb.Gen (rows_of (found_of matches.now)) ≡ None)) }
+    ensures asks { Reads asked (asked_by verb.Gen (rows_of (found_of matches.now))) result }
     ensures small { IfOk result HasSmallNumbers }
     ensures script { IfOk result HasScript }
 {
@@ -196,9 +184,7 @@ fn workload<'a>(matches: &ArgMatches<'a>) -> Result<Command<'a>, WordsRefusal>
 
 // What is found of `replicate` asks.
 fn replicate<'a>(matches: &ArgMatches<'a>) -> Result<Command<'a>, WordsRefusal>
-    ensures asks { MatchResult result (λ c. asked_by verb.Replicate (rows_of (found_of matches.now)) ≡ Some (asked c))
-        (λ e. (e ≡ WordsRefusal.Unknown)
-        × (asked_by verb.Replicate (rows_of (found_of matches.now)) ≡ None)) }
+    ensures asks { Reads asked (asked_by verb.Replicate (rows_of (found_of matches.now))) result }
     ensures small { IfOk result HasSmallNumbers }
     ensures script { IfOk result HasScript }
 {
@@ -210,9 +196,7 @@ fn replicate<'a>(matches: &ArgMatches<'a>) -> Result<Command<'a>, WordsRefusal>
 
 // What is found of `loose` asks.
 fn loose<'a>(matches: &ArgMatches<'a>) -> Result<Command<'a>, WordsRefusal>
-    ensures asks { MatchResult result (λ c. asked_by verb.Loose (rows_of (found_of matches.now)) ≡ Some (asked c))
-        (λ e. (e ≡ WordsRefusal.Unknown)
-        × (asked_by verb.Loose (rows_of (found_of matches.now)) ≡ None)) }
+    ensures asks { Reads asked (asked_by verb.Loose (rows_of (found_of matches.now))) result }
     ensures small { IfOk result HasSmallNumbers }
     ensures script { IfOk result HasScript }
 {
@@ -234,9 +218,7 @@ fn command_of<'a>(
     verb: Verb,
     matches: &ArgMatches<'a>,
 ) -> Result<Command<'a>, WordsRefusal>
-    ensures asks { MatchResult result (λ c. asked_by verb (rows_of (found_of matches.now)) ≡ Some (asked c))
-        (λ e. (e ≡ WordsRefusal.OutOfMemory) ⊎ ((e ≡ WordsRefusal.Unknown)
-        × (asked_by verb (rows_of (found_of matches.now)) ≡ None))) }
+    ensures asks { ReadsOrFails asked (asked_by verb (rows_of (found_of matches.now))) result }
     ensures small { IfOk result HasSmallNumbers }
     ensures script { IfOk result HasScript }
 {
@@ -268,52 +250,22 @@ fn command_of<'a>(
     }
 }
 
-// What the words of a command ask, its name the first.
-fn read_found<'a>(
-    alloc: Global,
-    verb: Verb,
-    words: &'a [String],
-) -> Result<Command<'a>, WordsRefusal>
-    ensures asks { MatchResult result (λ c. found_in verb (map string_bytes words.now) ≡ Some (asked c))
-        (λ e. (e ≡ WordsRefusal.OutOfMemory) ⊎ ((e ≡ WordsRefusal.Unknown)
-        × (found_in verb (map string_bytes words.now) ≡ None))) }
-    ensures small { IfOk result HasSmallNumbers }
-    ensures script { IfOk result HasScript }
-{
-    match parse(alloc, verb, words) {
-        Ok(matches) => command_of(alloc, verb, &matches),
-        Err(refusal) => Err(refusal),
-    }
-}
-
-// What a first word asks that names no command.
-fn read_other<'a>(word: &str) -> Result<Command<'a>, WordsRefusal>
-    ensures asks { MatchResult result (λ c. (words : Words) → asked_after None word.now words ≡ Some (asked c))
-        (λ e. (e ≡ WordsRefusal.Unknown) × ((words : Words) → asked_after None word.now words ≡ None)) }
-    ensures small { IfOk result HasSmallNumbers }
-    ensures script { IfOk result HasScript }
-{
-    match word {
-        "--help" => Ok(Command::Help(None)),
-        "--version" => Ok(Command::Version),
-        _ => Err(WordsRefusal::Unknown),
-    }
-}
-
 /// The command that the words after the program's name spell.
 pub fn read_command<'a>(alloc: Global, words: &'a [String]) -> Result<Command<'a>, WordsRefusal>
-    ensures asks { MatchResult result (λ c. asked_of (map string_bytes words.now) ≡ Some (asked c))
-        (λ e. (e ≡ WordsRefusal.OutOfMemory) ⊎ ((e ≡ WordsRefusal.Unknown)
-        × (asked_of (map string_bytes words.now) ≡ None))) }
+    ensures asks { ReadsOrFails asked (asked_of (map string_bytes words.now)) result }
     ensures small { IfOk result HasSmallNumbers }
     ensures script { IfOk result HasScript }
 {
     let [word, rest @ ..] = words else {
         return Err(WordsRefusal::Unknown);
     };
-    match read_verb(word) {
-        None => read_other(word),
-        Some(verb) if asks_help(rest) => Ok(Command::Help(Some(verb))),
-        Some(verb) => read_found(alloc, verb, words),
+    match read_first(read_verb(word), word, rest)? {
+        First::Help(topic) => Ok(Command::Help(topic)),
+        First::Version => Ok(Command::Version),
+        First::Command(verb) => {
+            let command = command_for(alloc, verb)?;
+            let matches = parse_words(command, words)?;
+            command_of(alloc, verb, &matches)
+        }
     }
 }

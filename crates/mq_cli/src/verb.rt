@@ -41,23 +41,25 @@ impl Verb {
     }
 }
 
+/// The names of all commands.
+const VERBS: [Verb; 12] = [
+    Verb::Blocks,
+    Verb::Format,
+    Verb::Run,
+    Verb::Recover,
+    Verb::Ls,
+    Verb::Cat,
+    Verb::Gen,
+    Verb::Dump,
+    Verb::Check,
+    Verb::Audit,
+    Verb::Replicate,
+    Verb::Loose,
+];
+
 /// The command that a word names.
 pub fn read_verb(word: &str) -> Option<Verb>
     ensures { result ≡ verb_of word.now }
 {
-    match word {
-        "blocks" => Some(Verb::Blocks),
-        "format" => Some(Verb::Format),
-        "run" => Some(Verb::Run),
-        "recover" => Some(Verb::Recover),
-        "ls" => Some(Verb::Ls),
-        "cat" => Some(Verb::Cat),
-        "gen" => Some(Verb::Gen),
-        "dump" => Some(Verb::Dump),
-        "check" => Some(Verb::Check),
-        "audit" => Some(Verb::Audit),
-        "replicate" => Some(Verb::Replicate),
-        "loose" => Some(Verb::Loose),
-        _ => None,
-    }
+    VERBS.iter().copied().find(|verb| word == verb.name())
 }

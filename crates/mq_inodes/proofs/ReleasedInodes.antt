@@ -15,7 +15,7 @@ use Rattle.mq_inodes.specs.Released.{IsReleased, Releases, gone_from}
 use Rattle.mq_inodes.specs.declared.opened.Opened.{Opened}
 use Rattle.mq_inodes.specs.declared.working.Working.{Working}
 use Rattle.mq_inodes.proofs.EditsBecoming.{becomes-stepped}
-use Rattle.mq_inodes.proofs.PagesHeld.{bitmap-low, held-known, table-low}
+use Rattle.mq_inodes.proofs.PagesHeld.{bitmap-low, held-known, held-same, table-low}
 use Rattle.mq_inodes.proofs.ChangesFrame.{same-bool}
 use Rattle.mq_inodes.proofs.ChangesGone.{bitmap-in, cleared-by, gone-opened, listed-zone, zone-listed, zones_of}
 use Rattle.mq_inodes.proofs.ChangesInodes.{AreFreed, freed-step}
@@ -39,6 +39,17 @@ table-held old mid i blocks low s h =
 
 pub inside-along : (old mid : Working) (i : ℕ) → IsOver old mid → i < inodes_of old.geometry → i < inodes_of mid.geometry
 inside-along old mid i over low = subst (λ g. i < inodes_of g) (sym over.view.geometry) low
+
+pub marks-held : (old mid : Working) (blocks : List ℕ) → Releases old mid blocks → IsHeld (pages_of old) (inode_bitmap old.geometry) → IsHeld (pages_of mid) (inode_bitmap mid.geometry)
+marks-held old mid blocks s h =
+    subst (λ g. IsHeld (pages_of mid) (inode_bitmap g)) (sym s.over.view.geometry) (held-along old.geometry (pages_of old) (pages_of mid) blocks (inode_bitmap old.geometry) s.pages (bitmap-low old.geometry) h)
+
+-- behind the freeing of blocks and the marking of the inode
+pub table-marked : (old mid next : Working) (i : ℕ) (blocks : List ℕ) → i < inodes_of old.geometry → Releases old mid blocks → IsOver mid next → IsInodeMarked mid.geometry (pages_of mid) (pages_of next) i false → IsHeld (pages_of old) (inode_block old.geometry i)
+    → IsHeld (pages_of next) (inode_block next.geometry i)
+table-marked old mid next i blocks low s over marked h =
+    subst (λ g. IsHeld (pages_of next) (inode_block g i)) (sym over.view.geometry)
+    (held-same (pages_of mid) (pages_of next) (inode_block mid.geometry i) (marked.put.others (inode_block mid.geometry i) (λ e. absurd (omega arith))) (table-held old mid i blocks low s h))
 
 -- ---- the volume
 

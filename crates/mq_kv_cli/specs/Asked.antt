@@ -1,7 +1,7 @@
 -- What words ask: exactly one thing, or nothing.
-use Rattle.std.specs.Prelude.{ℕ, ◌<◌, IfSome, List, [], ◌∷◌, Option, Some, None, option_map, codes, bytes_eq, if◌then◌else◌}
-use Rattle.clap.specs.Words.{Row, Text, fault_of, first_of, matches_of}
-use Rattle.mq_cli.specs.Asked.{Words, is_empty, number_end, number_option, wants_help}
+use Rattle.std.specs.Prelude.{ℕ, ◌<◌, IfSome, List, Option, Some, None, option_map, codes}
+use Rattle.clap.specs.Words.{Row, Text, first_of}
+use Rattle.mq_cli.specs.Asked.{Commands, Words, asked_in, number_end, number_option}
 use Rattle.mq_kv_cli.specs.Syntax.{app_for, verb_of}
 use Rattle.mq_kv_cli.specs.declared.command.ApplyOptions.{ApplyOptions}
 use Rattle.mq_kv_cli.specs.declared.command.Command.{Command}
@@ -31,24 +31,18 @@ asked_by verb.Apply rows = apply_by (first_of (codes "image") rows) (first_of (c
 
 -- ---- what words ask
 
--- The words of a command, its name the first, ask what `clap` finds in them, where `clap` finds no fault.
-unfoldable pub found_in : Verb → Words → Option Asked
-found_in verb words =
-    if is_empty (fault_of (app_for verb) words) then asked_by verb (matches_of (app_for verb) words)
-    else None
-
-abbrev pub asked_after : Option Verb → (word : Text) → (words : Words) → Option Asked
-asked_after None word words =
-    if bytes_eq word (codes "--help") then Some (help None)
-    else if bytes_eq word (codes "--version") then Some version
-    else None
-asked_after (Some verb) word words =
-    if wants_help words then Some (help (Some verb)) else found_in verb (word ∷ words)
+abbrev pub commands : Commands Verb Asked
+commands = record {
+  verb_of = verb_of;
+  app_for = app_for;
+  asked_by = asked_by;
+  help = help;
+  version = version;
+}
 
 -- what the words ask
 abbrev pub asked_of : Words → Option Asked
-asked_of [] = None
-asked_of (word ∷ words) = asked_after (verb_of word) word words
+asked_of words = asked_in commands words
 
 -- the same as a command
 abbrev pub asked : Command → Asked

@@ -1,6 +1,6 @@
 // The first words of lines.
 ghost use Rattle.std.specs.Prelude.{◌≡◌};
-ghost use Rattle.mq_script.specs.Verbs.{verb_in};
+ghost use Rattle.mq_script.specs.Verbs.{verb_in, verb_text};
 
 /// What a line is: a request of a kind, or the end of a group.
 #[derive(Clone, Copy)]
@@ -21,25 +21,49 @@ pub enum Verb {
     Ask,
 }
 
-/// The verb of a word.
+/// The verbs of lines.
+const VERBS: [Verb; 14] = [
+    Verb::Mkdir,
+    Verb::Create,
+    Verb::Write,
+    Verb::Truncate,
+    Verb::Unlink,
+    Verb::Rmdir,
+    Verb::Rename,
+    Verb::Link,
+    Verb::Read,
+    Verb::List,
+    Verb::Stat,
+    Verb::Fsync,
+    Verb::Fatomic,
+    Verb::Ask,
+];
+
+/// The word that a line of a verb begins with.
+fn verb_word(verb: Verb) -> &'static [u8]
+    ensures { result.now ≡ verb_text verb }
+{
+    match verb {
+        Verb::Mkdir => b"mkdir",
+        Verb::Create => b"create",
+        Verb::Write => b"write",
+        Verb::Truncate => b"truncate",
+        Verb::Unlink => b"unlink",
+        Verb::Rmdir => b"rmdir",
+        Verb::Rename => b"rename",
+        Verb::Link => b"link",
+        Verb::Read => b"read",
+        Verb::List => b"list",
+        Verb::Stat => b"stat",
+        Verb::Fsync => b"fsync",
+        Verb::Fatomic => b"fatomic",
+        Verb::Ask => b"ask",
+    }
+}
+
+/// The verb of the word that a line begins with.
 pub fn read_verb(word: &[u8]) -> Option<Verb>
     ensures { result ≡ verb_in word.now }
 {
-    match word {
-        b"mkdir" => Some(Verb::Mkdir),
-        b"create" => Some(Verb::Create),
-        b"write" => Some(Verb::Write),
-        b"truncate" => Some(Verb::Truncate),
-        b"unlink" => Some(Verb::Unlink),
-        b"rmdir" => Some(Verb::Rmdir),
-        b"rename" => Some(Verb::Rename),
-        b"link" => Some(Verb::Link),
-        b"read" => Some(Verb::Read),
-        b"list" => Some(Verb::List),
-        b"stat" => Some(Verb::Stat),
-        b"fsync" => Some(Verb::Fsync),
-        b"fatomic" => Some(Verb::Fatomic),
-        b"ask" => Some(Verb::Ask),
-        _ => None,
-    }
+    VERBS.iter().copied().find(|verb| word == verb_word(*verb))
 }

@@ -7,7 +7,7 @@ use Rattle.mq_exec.proofs.OpenedLinkable.{last-name}
 use Rattle.mq_exec.proofs.PlansLinked.{link-added, link-counted, link-linkable, link-possible}
 use Rattle.mq_inodes.specs.Opened.{IsTakeable}
 use Rattle.mq_inodes.specs.Pages.{IsHeld, pages_of}
-use Rattle.mq_inodes.proofs.EditsBecoming.{carries-sound}
+use Rattle.mq_inodes.proofs.EditsBecoming.{carries-sound, over-then}
 use Rattle.mq_layout.specs.Places.{inode_block}
 use Rattle.mq_tree.specs.Volume.{Path}
 use Rattle.mq_exec.proofs.link.carry_link.Goals as goal
@@ -63,6 +63,10 @@ link_name-requires-clause-pointers c =
     let counted = link-counted g p.0 p.1 c.args.from.now c.args.to.now c.args.linking c.args.working.now c.put_links.new.self p.2 p.3 e.counted in
     let h = link-linkable g p.0 p.1 c.args.from.now c.args.to.now c.args.linking c.args.working.now c.put_links.new.self p.3 c.requires.pages e.over counted in
     h.pointers
+
+pub returns-clause-over : goal.returns-clause-over
+returns-clause-over c =
+    on_ok_weaker c.link_name.result (over-then c.args.working.now c.put_links.new.self c.link_name.new.self c.in_ok-put_links.ensures.over) c.link_name.ensures.over
 
 pub returns-clause-added : goal.returns-clause-added
 returns-clause-added c =

@@ -12,8 +12,19 @@ use Rattle.mq_layout.specs.Places.{inode_block}
 use Rattle.mq_tree.specs.Volume.{Path}
 use Rattle.mq_exec.proofs.OpenedLinkable.{last-name, link-at, name-added}
 use Rattle.mq_exec.proofs.PlansCreations.{made-link, made-linkable, made-slots}
-use Rattle.mq_inodes.proofs.EditsBecoming.{becomes-then, carries-sound}
+use Rattle.mq_inodes.proofs.EditsBecoming.{becomes-then, carries-sound, over-then}
 use Rattle.mq_exec.proofs.make.carry_make.Goals as goal
+
+pub make_unseen_inode-requires-clause-low : goal.make_unseen_inode-requires-clause-low
+make_unseen_inode-requires-clause-low c = c.requires.possible.3.low
+
+pub make_unseen_inode-requires-clause-possible : goal.make_unseen_inode-requires-clause-possible
+make_unseen_inode-requires-clause-possible c =
+    let p = c.requires.possible in
+    (p.1, carries-sound c.args.working.now.geometry (pages_of c.args.working.now) p.1 p.2)
+
+pub make_unseen_inode-requires-clause-marks : goal.make_unseen_inode-requires-clause-marks
+make_unseen_inode-requires-clause-marks c = c.requires.pages.marks
 
 pub link_name_at-requires-clause-possible : goal.link_name_at-requires-clause-possible
 link_name_at-requires-clause-possible c =
@@ -77,6 +88,10 @@ link_name_at-requires-clause-slot c =
     let made = e.carried p.1 carries (p.2.sound.nodes c.args.creation.inode) p.3.free in
     let h = made-linkable g p.0 p.1 y c.args.path.now c.args.creation c.args.working.now c.make_unseen_inode.new.self p.2 p.3 c.requires.pages c.requires.free e.over made in
     made-slots g p.0 p.1 y c.args.path.now c.args.creation c.args.working.now c.make_unseen_inode.new.self p.2 carries p.3 c.requires.pages h.dirs made
+
+pub returns-clause-over : goal.returns-clause-over
+returns-clause-over c =
+    on_ok_weaker c.link_name_at.result (over-then c.args.working.now c.make_unseen_inode.new.self c.link_name_at.new.self c.in_ok-make_unseen_inode.ensures.over) c.link_name_at.ensures.over
 
 pub returns-clause-carried : goal.returns-clause-carried
 returns-clause-carried c =

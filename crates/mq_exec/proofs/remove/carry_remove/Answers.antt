@@ -6,7 +6,7 @@ use Rattle.mq_exec.proofs.PlansRemoveCarried.{gone-carried, may-free, name-there
 use Rattle.mq_inodes.specs.Dirs.{AreDirsAt}
 use Rattle.mq_inodes.specs.Opened.{MayUnlink}
 use Rattle.mq_inodes.specs.Pages.{pages_of}
-use Rattle.mq_inodes.proofs.EditsBecoming.{carries-sound}
+use Rattle.mq_inodes.proofs.EditsBecoming.{carries-sound, over-then}
 use Rattle.mq_inodes.specs.Walks.{last_of}
 use Rattle.mq_tree.specs.Volume.{Path, way}
 use Rattle.mq_exec.proofs.remove.carry_remove.Goals as goal
@@ -58,6 +58,10 @@ pub free_inode_of-requires-clause-pointers : goal.free_inode_of-requires-clause-
 free_inode_of-requires-clause-pointers c =
     let e = c.in_ok-unlink_name.ensures in
     (may-free c.args.working.now.geometry c.unlink_name.new.self.geometry c.args.removal.now c.args.working.now c.unlink_name.new.self e.over.view.geometry c.requires.pages e.keeps e.over).pointers
+
+pub returns-clause-over : goal.returns-clause-over
+returns-clause-over c =
+    on_ok_weaker c.free_inode_of.result (over-then c.args.working.now c.unlink_name.new.self c.free_inode_of.new.self c.in_ok-unlink_name.ensures.over) c.free_inode_of.ensures.over
 
 pub returns-clause-removed : goal.returns-clause-removed
 returns-clause-removed c =

@@ -6,12 +6,23 @@ use Rattle.mq_blocks.specs.declared.geometry.Geometry.{Geometry}
 use Rattle.mq_exec.proofs.OpenedLinkable.{last-name}
 use Rattle.mq_exec.proofs.PlansRemoveCarried.{name-there}
 use Rattle.mq_exec.proofs.PlansRenamed.{old-gone, rename-linkable, rename-possible, renamed}
-use Rattle.mq_inodes.specs.Opened.{IsTakeable}
+use Rattle.mq_inodes.specs.Dirs.{AreDirsAt}
+use Rattle.mq_inodes.specs.Opened.{IsTakeable, MayUnlink}
 use Rattle.mq_inodes.specs.Pages.{IsHeld, pages_of}
 use Rattle.mq_inodes.specs.Walks.{last_of}
+use Rattle.mq_inodes.proofs.EditsBecoming.{carries-sound, over-then}
 use Rattle.mq_layout.specs.Places.{inode_block}
 use Rattle.mq_tree.specs.Volume.{Path, way}
 use Rattle.mq_exec.proofs.rename.carry_rename.Goals as goal
+
+pub unlink_name-requires-clause-possible : goal.unlink_name-requires-clause-possible
+unlink_name-requires-clause-possible c =
+    let g = c.args.working.now.geometry in
+    let p = c.requires.possible in
+    (p.1, c.args.renaming.source.number, carries-sound g (pages_of c.args.working.now) p.1 p.2, subst (λ (bs : List ℕ). MayUnlink g p.1 c.args.renaming.source.number bs) (sym c.deref-3.ensures.value) p.3.unlink)
+
+pub unlink_name-requires-clause-held : goal.unlink_name-requires-clause-held
+unlink_name-requires-clause-held c = subst (λ (bs : List ℕ). AreDirsAt (pages_of c.args.working.now) bs) (sym c.deref-3.ensures.value) c.requires.pages.source
 
 pub unlink_name-requires-clause-found : goal.unlink_name-requires-clause-found
 unlink_name-requires-clause-found c =
@@ -83,6 +94,10 @@ link_name-requires-clause-pointers c =
     let gone = old-gone g p.0 p.1 c.args.from.now c.args.to.now c.args.renaming c.deref-4.result.now c.deref-3.result.now c.args.working.now c.unlink_name.new.self p.2 p.3 (old ∙ last) c.deref-3.ensures.value e.unlinked in
     let h = rename-linkable g p.0 p.1 c.args.from.now c.args.to.now c.args.renaming c.args.working.now c.unlink_name.new.self p.3 c.requires.pages e.over gone in
     h.pointers
+
+pub returns-clause-over : goal.returns-clause-over
+returns-clause-over c =
+    on_ok_weaker c.link_name.result (over-then c.args.working.now c.unlink_name.new.self c.link_name.new.self c.in_ok-unlink_name.ensures.over) c.link_name.ensures.over
 
 pub returns-clause-moved : goal.returns-clause-moved
 returns-clause-moved c =

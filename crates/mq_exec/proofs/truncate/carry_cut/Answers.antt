@@ -5,6 +5,7 @@ use Rattle.mq_exec.specs.Plans.{HoldsPlaces}
 use Rattle.mq_exec.proofs.Cuts.{blank-keeps, cut-limit, holds-along, mid-becomes_cut, mid-cut}
 use Rattle.mq_inodes.specs.Opened.{IsReleasable}
 use Rattle.mq_inodes.specs.Pages.{pages_of}
+use Rattle.mq_inodes.proofs.EditsBecoming.{over-then}
 use Rattle.mq_tree.specs.Requests.{cut_to}
 use Rattle.mq_tree.specs.Sound.{blocks_for}
 use Rattle.mq_exec.proofs.truncate.carry_cut.Goals as goal
@@ -59,6 +60,10 @@ cut-requires-clause-release c =
     let e = c.in_ok-blank.ensures in
     let h = holds-along c.args.working.now c.blank.new.working c.args.cutting.now e.over (blank-keeps c.args.working.now c.blank.new.working c.deref.result.now c.args.cutting.now.size e.blanked) c.requires.pages in
     λ few many. h.release (let n = c.count_for.ensures.is in omega arith) many
+
+pub returns-clause-over : goal.returns-clause-over
+returns-clause-over c =
+    on_ok_weaker c.cut.result (over-then c.args.working.now c.blank.new.working c.cut.new.self c.in_ok-blank.ensures.over) c.cut.ensures.over
 
 pub returns-clause-cut : goal.returns-clause-cut
 returns-clause-cut c =
