@@ -1,5 +1,5 @@
 // A journal that keeps two blocks together, on one queue of a drive.
-ghost use Rattle.std.specs.Prelude.{◌≡◌, ◌<◌, IfOk};
+ghost use Rattle.std.specs.Prelude.{◌≡◌, ◌<◌, [], ◌∷◌, IfOk};
 ghost use Rattle.mq_blocks.specs.Drive.{IsQuiescent};
 ghost use Rattle.mq_blocks.specs.Geometry.{homes_of, queues_of};
 ghost use Rattle.mq_drive.specs.Start.{IsPortOf};
@@ -52,10 +52,7 @@ impl<P: Port + Drop> Journal<P> {
         ensures own { (self.new.side.pmr.geometry ≡ self.old.side.pmr.geometry)
             × (self.new.side.pmr.queue ≡ self.old.side.pmr.queue) }
     {
-        // Both blocks are logged: their copies go to the journal area, and recovery writes them home.
-        let mut plan = Placement::new(alloc)?;
-        plan.logged.push(FIRST)?;
-        plan.logged.push(SECOND)?;
+        let plan = both_logged(alloc)?;
         let writes = [write(alloc, FIRST, text)?, write(alloc, SECOND, text)?];
         if self.side.kept().is_some() || !self.side.is_bounded(&plan) {
             return Ok(false);
@@ -81,6 +78,16 @@ impl<P: Port + Drop> Journal<P> {
         let Journal { side } = self;
         side.into_pmr().into_port()
     }
+}
+
+// The plan by which both blocks are logged: their copies go to the journal area, and recovery writes them home.
+fn both_logged(alloc: Global) -> Result<Placement, OutOfMemory>
+    ensures { IfOk result (λ p. (p.logged ≡ 5 ∷ 20 ∷ []) × (p.direct ≡ []) × (p.revoked ≡ [])) }
+{
+    let mut plan = Placement::new(alloc)?;
+    plan.logged.push(FIRST)?;
+    plan.logged.push(SECOND)?;
+    Ok(plan)
 }
 
 // The write of a block that begins with a text.

@@ -1,4 +1,4 @@
-use Rattle.std.proofs.Common.{◌≤◌, arith}
+use Rattle.std.proofs.Common.{arith}
 use Rattle.mq_blocks.proofs.DescriptorLimits.{limit-low}
 use Rattle.mq_example_journal.proofs.journal.Journal.commit.Goals as goal
 
