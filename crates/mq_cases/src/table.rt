@@ -1,9 +1,8 @@
 // Following the lines of a table.
-use mq_calls::Open;
 use mq_case_lines::{Change, Line, LineRefusal, Program, Question, Shown, read_line, sum_of};
-use mq_kv_tool::kv;
+use mq_kv_tool::call_kv;
 use mq_outside::{Files, MemFiles, MemSink, SaveRefusal};
-use mqfs::mqfs;
+use mqfs::call_mqfs;
 use std::alloc::{AllocError, Global};
 use std::sync::Wait;
 use std::thread::Threads;
@@ -217,8 +216,8 @@ impl Table {
     ) -> Result<String, LineRefusal> {
         let mut out = MemSink::new(self.alloc, Vec::from_slice(self.alloc, &self.puts)?);
         let status = match self.program {
-            Program::FileSystem => mqfs(rt, self.alloc, words, &mut self.files, &mut out, &Open),
-            Program::Store => kv(rt, self.alloc, words, &mut self.files, &mut out),
+            Program::FileSystem => call_mqfs(rt, self.alloc, words, &mut self.files, &mut out),
+            Program::Store => call_kv(rt, self.alloc, words, &mut self.files, &mut out),
         };
         self.puts.clear();
         let output = String::from_utf8_lossy(self.alloc, out.written())?;

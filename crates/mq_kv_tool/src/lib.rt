@@ -2,9 +2,11 @@
 #![tactic(auto)]
 
 mod applying;
+mod called;
 mod help;
 mod making;
 mod program;
 mod refusals;
 
+pub use called::call_kv;
 pub use program::kv;

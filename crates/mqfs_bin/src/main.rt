@@ -1,10 +1,9 @@
 //! The program `mqfs`: its words, its files and its standard output, handed to the library.
 #![tactic(auto)]
 
-use mq_calls::Open;
 use mq_command_io::say_memory;
 use mq_outside::{RealFiles, RealSink};
-use mqfs::mqfs;
+use mqfs::call_mqfs;
 use std::io::ErrorKind;
 use std::process::ExitCode;
 use std::rt::Env;
@@ -23,10 +22,10 @@ fn main(rt: HostRuntime) -> ExitCode {
     let mut files = RealFiles::new(&rt);
     let mut out = RealSink::new(rt.stdout());
     let status = match words_after_name(&rt) {
-        Ok(words) => mqfs(&rt, rt.alloc(), &words, &mut files, &mut out, &Open),
+        Ok(words) => call_mqfs(&rt, rt.alloc(), &words, &mut files, &mut out),
         Err(e) if e.kind() == ErrorKind::OutOfMemory => say_memory(&mut out),
         // A word that is not text is no command, and neither is no word.
-        Err(_) => mqfs(&rt, rt.alloc(), &[], &mut files, &mut out, &Open),
+        Err(_) => call_mqfs(&rt, rt.alloc(), &[], &mut files, &mut out),
     };
     ExitCode::from(status)
 }
