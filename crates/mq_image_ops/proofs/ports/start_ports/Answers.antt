@@ -39,27 +39,3 @@ loop-q-preserved c =
           (subst (λ (l : List FuseSeat). AreStartedTo g (name_of c.args.fuse.now) c.args.fail c.args.image.ports (c.loop-q.q + 1) c.push.new.self.items (remove c.loop-q.images.items 0) l) (sym c.remove-seat.ensures.items) next),
       seeded,
     )
-
-pub loop-q-init : goal.loop-q-init
-loop-q-init c =
-    let g = c.image.inside.geometry in
-    let same : g ≡ c.args.image.geometry = ap (λ (x : DriveImage). x.geometry) c.image.view_is in
-    ?
-
-pub new-requires-clause-fuse : goal.new-requires-clause-fuse
-new-requires-clause-fuse c = ?
-
-pub new-requires-clause-role : goal.new-requires-clause-role
-new-requires-clause-role c = ?
-
-pub new-root-requires-clause-image : goal.new-root-requires-clause-image
-new-root-requires-clause-image c = ?
-
-pub remove-image-requires : goal.remove-image-requires
-remove-image-requires c = ?
-
-pub returns-clause-drive : goal.returns-clause-drive
-returns-clause-drive c = ?
-
-pub returns-clause-chance : goal.returns-clause-chance
-returns-clause-chance c = ?
