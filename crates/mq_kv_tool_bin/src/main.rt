@@ -2,7 +2,7 @@
 #![tactic(auto)]
 
 use mq_command_io::say_memory;
-use mq_kv_tool::call_kv;
+use mq_kv_tool::kv;
 use mq_outside::{RealFiles, RealSink};
 use std::io::ErrorKind;
 use std::process::ExitCode;
@@ -21,11 +21,12 @@ fn words_after_name<R: Env + AllocGlobal>(rt: &R) -> io::Result<Vec<String>> {
 fn main(rt: HostRuntime) -> ExitCode {
     let mut files = RealFiles::new(&rt);
     let mut out = RealSink::new(rt.stdout());
-    let status = match words_after_name(&rt) {
-        Ok(words) => call_kv(&rt, rt.alloc(), &words, &mut files, &mut out),
-        Err(e) if e.kind() == ErrorKind::OutOfMemory => say_memory(&mut out),
+    let words = match words_after_name(&rt) {
+        Ok(words) => words,
+        Err(e) if e.kind() == ErrorKind::OutOfMemory => return ExitCode::from(say_memory(&mut out)),
         // A word that is not text is no command, and neither is no word.
-        Err(_) => call_kv(&rt, rt.alloc(), &[], &mut files, &mut out),
+        Err(_) => Vec::new(rt.alloc()),
     };
+    let status = kv(&rt, rt.alloc(), &words, &mut files, &mut out);
     ExitCode::from(status)
 }

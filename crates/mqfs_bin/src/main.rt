@@ -1,9 +1,10 @@
 //! The program `mqfs`: its words, its files and its standard output, handed to the library.
 #![tactic(auto)]
 
+use mq_calls::Open;
 use mq_command_io::say_memory;
 use mq_outside::{RealFiles, RealSink};
-use mqfs::call_mqfs;
+use mqfs::mqfs;
 use std::io::ErrorKind;
 use std::process::ExitCode;
 use std::rt::Env;
@@ -21,11 +22,12 @@ fn words_after_name<R: Env + AllocGlobal>(rt: &R) -> io::Result<Vec<String>> {
 fn main(rt: HostRuntime) -> ExitCode {
     let mut files = RealFiles::new(&rt);
     let mut out = RealSink::new(rt.stdout());
-    let status = match words_after_name(&rt) {
-        Ok(words) => call_mqfs(&rt, rt.alloc(), &words, &mut files, &mut out),
-        Err(e) if e.kind() == ErrorKind::OutOfMemory => say_memory(&mut out),
+    let words = match words_after_name(&rt) {
+        Ok(words) => words,
+        Err(e) if e.kind() == ErrorKind::OutOfMemory => return ExitCode::from(say_memory(&mut out)),
         // A word that is not text is no command, and neither is no word.
-        Err(_) => call_mqfs(&rt, rt.alloc(), &[], &mut files, &mut out),
+        Err(_) => Vec::new(rt.alloc()),
     };
+    let status = mqfs(&rt, rt.alloc(), &words, &mut files, &mut out, &Open);
     ExitCode::from(status)
 }
