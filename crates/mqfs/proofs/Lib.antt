@@ -5,6 +5,7 @@ pub mod Played
 pub mod Ran
 pub mod Complete
 pub mod Covered
+pub mod Does
 pub mod ProgramTold
 pub mod Replicated
 pub mod Loosed

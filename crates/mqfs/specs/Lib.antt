@@ -1,5 +1,6 @@
 pub mod Course
 pub mod Decided
+pub mod Does
 pub mod Played
 pub mod Program
 pub mod Says
