@@ -26,7 +26,7 @@ said-of a words files new_files status text asks not (of_command b is says) =
     subst (λ (c : Asked). Says c files new_files status text) one says
 said-of a words files new_files _ _ asks not (no_memory same) = absurd (not refl)
 
-module _ {words : Words} {files new_files : FilesState} {old new : SinkState} {result : ℕ} (ends : EndsSaying words files new_files old new result) where
+module _ {words : Words} {files new_files : FilesState} (old : SinkState) {new : SinkState} {result : ℕ} (ends : EndsSaying words files new_files old new result) where
   -- ---- whatever the words ask
 
   pub is-status : IsStatus result
